@@ -1,0 +1,13 @@
+pub mod Chaining
+pub mod Mades
+pub mod Chains
+pub mod Deltas
+pub mod Texts
+pub mod Units
+pub mod Bytes
+pub mod ChainLaws
+pub mod Locals
+pub mod Backs
+pub mod Encodings
+pub mod Examples
+pub mod Faults

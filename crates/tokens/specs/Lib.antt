@@ -1,0 +1,11 @@
+pub mod Answers
+pub mod Faults
+pub mod Chains
+pub mod Deltas
+pub mod Bytes
+pub mod Readers
+pub mod Texts
+pub mod Units
+pub mod Encodings
+pub mod Laws
+pub mod Examples
