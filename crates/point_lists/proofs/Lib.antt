@@ -1,0 +1,10 @@
+pub mod Steps
+pub mod Rolls
+pub mod Heads
+pub mod Ends
+pub mod Shapes
+pub mod Fills
+pub mod Opens
+pub mod Locals
+pub mod Backs
+pub mod Examples
