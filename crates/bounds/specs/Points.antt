@@ -27,6 +27,11 @@ origin = point (pos 0) (pos 0)
 abbrev pub sum : Point → Point → Point
 sum p q = point (p .x +ℤ q .x) (p .y +ℤ q .y)
 
+-- the points to which displacements lead from p, one after the other
+abbrev pub path : Point → List Point → List Point
+path p [] = []
+path p (d ∷ ds) = sum p d ∷ path (sum p d) ds
+
 -- the point at which a place is
 abbrev pub spotAt : Spot → Point
 spotAt s = point (s .x) (s .y)

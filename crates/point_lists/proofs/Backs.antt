@@ -18,7 +18,7 @@ use Rattle.tokens.specs.Readers.{Back}
 use Rattle.tokens.proofs.Backs.{back-then, back-last, back-none, back-is}
 use Rattle.tokens.proofs.Encodings.{small-back, unsigned-back, g-delta-back, code-size}
 use Rattle.bounds.specs.declared.point.Point.{Point}
-use Rattle.bounds.specs.Points.{reach, farReach, point, origin, sum, Near, within}
+use Rattle.bounds.specs.Points.{reach, farReach, point, origin, sum, Near, within, path}
 use Rattle.bounds.proofs.Fitting.{near-within}
 use Rattle.point_lists.specs.declared.kind.ListKind.the-variants.{General}
 use Rattle.point_lists.specs.declared.walk.Walk.{Walk}
@@ -26,7 +26,7 @@ use Rattle.point_lists.specs.declared.read.Head.{Head}
 use Rattle.point_lists.specs.Kinds.{goodCount, closes, implied}
 use Rattle.point_lists.specs.Walks.{moved, advanced, start}
 use Rattle.point_lists.specs.Rolls.{unrolled}
-use Rattle.point_lists.specs.Lists.{path, lastOf, vectors, vertices, closing, listHead, walked, pointList}
+use Rattle.point_lists.specs.Lists.{lastOf, vectors, vertices, closing, listHead, walked, pointList}
 use Rattle.point_lists.specs.Laws.{gap, deltaBytes, listBytes, ListBack}
 
 -- two gaps make one

@@ -13,7 +13,7 @@ use Rattle.tokens.specs.Answers.{Answer, got, fault, then}
 use Rattle.tokens.specs.Readers.{Made}
 use Rattle.tokens.proofs.Mades.{made-weaken}
 use Rattle.bounds.specs.declared.point.Point.{Point}
-use Rattle.bounds.specs.Points.{origin, sum}
+use Rattle.bounds.specs.Points.{origin, sum, path}
 use Rattle.bounds.specs.Boxes.{nothing, grown}
 use Rattle.point_lists.specs.declared.kind.ListKind.{ListKind}
 use Rattle.point_lists.specs.declared.walk.Walk.{Walk}
@@ -23,7 +23,7 @@ use Rattle.point_lists.specs.declared.read.ListSummary.{ListSummary}
 use Rattle.point_lists.specs.Kinds.{closes, implied}
 use Rattle.point_lists.specs.Walks.{advanced, start, Steady}
 use Rattle.point_lists.specs.Rolls.{tally}
-use Rattle.point_lists.specs.Lists.{path, lastOf, vectors, vertices, walked, closing, listHead, pointList, summaryOf, summarised, noted, untoured, shortOf}
+use Rattle.point_lists.specs.Lists.{lastOf, vectors, vertices, walked, closing, listHead, pointList, summaryOf, summarised, noted, untoured, shortOf}
 use Rattle.point_lists.proofs.Rolls.{Follow, Rolled, unrolled-made}
 use Rattle.point_lists.proofs.Steps.{Stepped, advanced-made, start-steady}
 use Rattle.point_lists.proofs.Heads.{Begun, head-made}

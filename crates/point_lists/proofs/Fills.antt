@@ -17,12 +17,12 @@ use Rattle.tokens.specs.declared.fault.TokenFault.{TokenFault}
 use Rattle.tokens.specs.Answers.{Answer, got, then}
 use Rattle.tokens.proofs.Chaining.{same-got, not-fault}
 use Rattle.bounds.specs.declared.point.Point.{Point}
-use Rattle.bounds.specs.Points.{point, origin, sum}
+use Rattle.bounds.specs.Points.{point, origin, sum, path}
 use Rattle.point_lists.specs.declared.kind.ListKind.{ListKind}
 use Rattle.point_lists.specs.declared.walk.Walk.{Walk}
 use Rattle.point_lists.specs.declared.read.Head.{Head}
 use Rattle.point_lists.specs.Kinds.{closes, implied}
-use Rattle.point_lists.specs.Lists.{path, lastOf, vectors, vertices, walked, closing, listHead, pointList}
+use Rattle.point_lists.specs.Lists.{lastOf, vectors, vertices, walked, closing, listHead, pointList}
 use Rattle.point_lists.specs.Fills.{Page, written, filled}
 
 -- points over the front of memory

@@ -9,7 +9,7 @@ use Rattle.tokens.specs.Answers.{Answer, got, fault, then}
 use Rattle.tokens.specs.Chains.{unsigned}
 use Rattle.tokens.specs.Readers.{Local}
 use Rattle.tokens.proofs.Locals.{local-then, local-cond, local-got, local-fault, unsigned-local, signed-local, two-delta-local, three-delta-local, g-delta-local}
-use Rattle.bounds.specs.Points.{farReach, origin, within}
+use Rattle.bounds.specs.Points.{farReach, origin, within, path}
 use Rattle.point_lists.specs.declared.kind.ListKind.{ListKind}
 use Rattle.point_lists.specs.declared.kind.ListKind.the-variants.{AcrossFirst, UpFirst, Manhattan, Octangular, General, Changing}
 use Rattle.point_lists.specs.declared.read.Head.{Head}
@@ -17,7 +17,7 @@ use Rattle.point_lists.specs.declared.walk.Walk.{Walk}
 use Rattle.point_lists.specs.Kinds.{isZero, listKind, goodCount, closes}
 use Rattle.point_lists.specs.Walks.{displacement, moved, advanced, start}
 use Rattle.point_lists.specs.Rolls.{unrolled}
-use Rattle.point_lists.specs.Lists.{path, lastOf, vectors, kindOr, listHead, walked, pointList}
+use Rattle.point_lists.specs.Lists.{lastOf, vectors, kindOr, listHead, walked, pointList}
 use Rattle.point_lists.specs.Laws.{ListLocal}
 
 displacement-local : (k : ListKind) (across : Bool) → Local (λ file at. displacement k across file at)

@@ -17,14 +17,14 @@ use Rattle.tokens.specs.Answers.{Answer, got, fault, then}
 use Rattle.tokens.specs.declared.fault.FaultKind.the-variants.{BadList}
 use Rattle.tokens.proofs.Chaining.{same-got, not-fault}
 use Rattle.bounds.specs.declared.point.Point.{Point}
-use Rattle.bounds.specs.Points.{reach, origin, sum, within}
+use Rattle.bounds.specs.Points.{reach, origin, sum, within, path}
 use Rattle.point_lists.specs.declared.kind.ListKind.{ListKind}
 use Rattle.point_lists.specs.declared.walk.Walk.{Walk}
 use Rattle.point_lists.specs.declared.read.Head.{Head}
 use Rattle.point_lists.specs.declared.read.ListSummary.{ListSummary}
 use Rattle.point_lists.specs.Kinds.{closes, implied}
 use Rattle.point_lists.specs.Walks.{start, Steady}
-use Rattle.point_lists.specs.Lists.{path, lastOf, vectors, vertices, walked, closing, listHead, pointList, summarised}
+use Rattle.point_lists.specs.Lists.{lastOf, vectors, vertices, walked, closing, listHead, pointList, summarised}
 use Rattle.point_lists.specs.Fills.{filled, Laid, canLay, laidCount, laidMemory}
 use Rattle.point_lists.proofs.Rolls.{Rolled}
 use Rattle.point_lists.proofs.Steps.{Stepped}

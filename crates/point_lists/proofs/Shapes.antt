@@ -12,13 +12,13 @@ use Rattle.tokens.specs.Chains.{largest}
 use Rattle.tokens.specs.Readers.{Made}
 use Rattle.tokens.proofs.Mades.{made-then, made-cond, made-got, made-fault, made-weaken}
 use Rattle.bounds.specs.declared.point.Point.{Point}
-use Rattle.bounds.specs.Points.{farReach, origin, Near, Rooted}
+use Rattle.bounds.specs.Points.{farReach, origin, Near, Rooted, path}
 use Rattle.point_lists.specs.declared.kind.ListKind.{ListKind}
 use Rattle.point_lists.specs.declared.kind.ListKind.the-variants.{AcrossFirst, UpFirst, Manhattan, Octangular, General, Changing}
 use Rattle.point_lists.specs.declared.walk.Walk.{Walk}
 use Rattle.point_lists.specs.Kinds.{goodCount, closes, implied}
 use Rattle.point_lists.specs.Walks.{start, Steady}
-use Rattle.point_lists.specs.Lists.{path, lastOf, vectors, vertices, walked, closing, listHead, pointList, summaryOf, summarised}
+use Rattle.point_lists.specs.Lists.{lastOf, vectors, vertices, walked, closing, listHead, pointList, summaryOf, summarised}
 use Rattle.point_lists.specs.Laws.{Shaped, ListMade}
 use Rattle.point_lists.proofs.Rolls.{Rolled}
 use Rattle.point_lists.proofs.Steps.{Stepped}

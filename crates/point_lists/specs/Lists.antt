@@ -10,7 +10,7 @@ use Rattle.tokens.specs.declared.fault.FaultKind.the-variants.{BadType, BadList
 use Rattle.tokens.specs.Answers.{Answer, got, fault, then}
 use Rattle.tokens.specs.Chains.{unsigned}
 use Rattle.bounds.specs.declared.point.Point.{Point}
-use Rattle.bounds.specs.Points.{origin, sum}
+use Rattle.bounds.specs.Points.{origin, sum, path}
 use Rattle.bounds.specs.Boxes.{nothing, grown, boundsOf}
 use Rattle.point_lists.specs.declared.kind.ListKind.{ListKind}
 use Rattle.point_lists.specs.declared.walk.Walk.{Walk}
@@ -20,11 +20,6 @@ use Rattle.point_lists.specs.declared.read.ListSummary.{ListSummary}
 use Rattle.point_lists.specs.Kinds.{listKind, goodCount, closes, implied}
 use Rattle.point_lists.specs.Walks.{advanced, start}
 use Rattle.point_lists.specs.Rolls.{unrolled}
-
--- the points to which displacements lead from p, one after the other
-abbrev pub path : Point → List Point → List Point
-path p [] = []
-path p (d ∷ ds) = sum p d ∷ path (sum p d) ds
 
 -- the last of some points, or p where there is none
 abbrev pub lastOf : Point → List Point → Point

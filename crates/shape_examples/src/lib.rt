@@ -1,4 +1,6 @@
 //! Examples of point lists and repetitions that are run.
 
 #[cfg(test)]
+mod copies;
+#[cfg(test)]
 mod lists;

@@ -1,0 +1,12 @@
+pub mod Products
+pub mod Matrices
+pub mod Orders
+pub mod Corners
+pub mod Series
+pub mod Reaches
+pub mod Listings
+pub mod Mades
+pub mod Walks
+pub mod Trails
+pub mod Locals
+pub mod Examples
