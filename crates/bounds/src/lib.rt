@@ -1,5 +1,7 @@
 //! Points on the grid, the box around points, and whether points are in reach.
 
+#![tactic(auto)]
+
 mod bounds;
 mod fit;
 mod point;

@@ -1,6 +1,8 @@
 //! CHECKSUM32, the validation sum of a file: all its bytes from the first record on are added up,
 //! and the sum is cut to 32 bits. The bytes `01 FF 80` have the sum 1 + 255 + 128 = 384.
 
+#![tactic(auto)]
+
 ghost use Rattle.std.specs.Prelude.{◌≡◌, ℕ, ◌+◌, ◌%◌, ◌^◌, ◌≤◌, List, [], ◌∷◌, ◌++◌, length, fold, sum};
 ghost use Rattle.checksum.specs.Sums.{checksum_of, added, joined_checksum, Taken};
 

@@ -3,6 +3,8 @@
 //! Each is an info byte, whose flags say which fields are present, and then the fields. `7B 01 02 64 32 00 00` is a rectangle
 //! on layer 1 with datatype 2, 100 wide and 50 high, at the origin; `00` after it is the same rectangle again.
 
+#![tactic(auto)]
+
 mod element;
 mod figure;
 mod info;

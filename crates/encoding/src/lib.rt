@@ -3,6 +3,8 @@
 //! A function takes the buffer and a place in it, and answers the place behind what it put there. The caller has tested
 //! the room, for which there is a size of each token. All other bytes of the buffer stay as they were.
 
+#![tactic(auto)]
+
 mod put;
 mod size;
 

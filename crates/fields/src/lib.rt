@@ -3,6 +3,8 @@
 //! Of the bytes `01 05`, read as a layer that its info byte announces from place 0, the layer is 1 and the next field stands at
 //! place 1. Where the info byte does not announce it, the layer is the variable's value and the next field stands at place 0.
 
+#![tactic(auto)]
+
 mod anchor;
 mod copies;
 mod number;

@@ -3,6 +3,8 @@
 //! START tells the version and the unit. END is 256 bytes long, ends the file, and may hold a checksum of it. Each of them
 //! may hold the offsets of the name tables, which are read over and not used.
 
+#![tactic(auto)]
+
 mod end;
 mod laws;
 mod start;

@@ -2,6 +2,8 @@
 //!
 //! A drawing with one cell `A` and a rectangle in it is four items: a start, the cell `A`, the rectangle and an end.
 
+#![tactic(auto)]
+
 mod extent;
 mod item;
 mod laws;

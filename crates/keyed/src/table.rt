@@ -29,7 +29,7 @@ pub struct NoRow;
 
 // The place of the first row with the key.
 fn position<K: Key, V: Copy>(rows: &[Entry<K, V>], key: K) -> Option<usize>
-    ensures { result ≡ find_key same key rows.now }
+    ensures { result ≡ find_key K.Key.same key rows.now }
 {
     for (i, row) in rows.iter().enumerate() {
         if row.key.is(&key) {
@@ -87,7 +87,7 @@ impl<'r, K: Key, V: Copy> Table<'r, K, V> {
 
     /// The place of the first row with the key.
     pub fn find(&self, key: K) -> Option<usize>
-        ensures place { result ≡ find_key same key (table self.now) }
+        ensures place { result ≡ find_key K.Key.same key (table self.now) }
         ensures found { Found key (table self.now) result }
     {
         position(self.live(), key)
@@ -95,7 +95,7 @@ impl<'r, K: Key, V: Copy> Table<'r, K, V> {
 
     /// The value of the first row with the key.
     pub fn get(&self, key: K) -> Option<V>
-        ensures value { result ≡ value_of (first (has_key same key) (table self.now)) }
+        ensures value { result ≡ value_of (first (has_key K.Key.same key) (table self.now)) }
     {
         match self.find(key) {
             Some(i) => Some(self.live()[i].value),

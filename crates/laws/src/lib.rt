@@ -4,6 +4,8 @@
 //! A start with the unit 1000 and an end have an explicit form of 290 bytes. It is an allowed file, needs no name records, and
 //! its items are that start and that end.
 
+#![tactic(auto)]
+
 ghost use Rattle.laws.specs.Laws.{Reread, FormsDistinct};
 
 /// The explicit form of valid items in sequence, from start to end, is an allowed file without names that defines exactly those

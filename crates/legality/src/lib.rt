@@ -3,6 +3,8 @@
 //! A layer is at most 17,592,186,044,415, a width is in reach, a name obeys its rule, and so is each vertex of each copy of
 //! an element in reach: given in the record or inherited.
 
+#![tactic(auto)]
+
 ghost use Rattle.legality.specs.Laws.{ElementsLegal, RunLegal};
 
 /// An element that is read with legal variables is legal, and so are the variables after it; and each record of a run, whole

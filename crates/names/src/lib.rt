@@ -3,6 +3,8 @@
 //! A name record is its string, and then its number where the record gives one. `03 41 42 43` is the name `ABC` of a record
 //! that gives no number, and `03 41 42 43 05` that of one that gives 5.
 
+#![tactic(auto)]
+
 mod class;
 mod laws;
 mod read;

@@ -3,6 +3,8 @@
 //! A list is its type, the number of its displacements, and the displacements. `04 02 44 09 0D` is of type 4 and has the
 //! vertices (0, 0), (-4, 0) and (-2, -6), as offsets from the first.
 
+#![tactic(auto)]
+
 mod fill;
 mod kind;
 mod laws;

@@ -3,6 +3,8 @@
 //! The file comes on standard input, at most 65,536 bytes. A line has the place of the record's first byte, its ID and its
 //! fields; behind the last record that could be read, a line with an `F` says what is at fault.
 
+#![tactic(auto)]
+
 mod listing;
 mod numbers;
 mod text;

@@ -2,6 +2,8 @@
 //!
 //! `01 00 01 0A 14` is a matrix of two columns, 10 apart, and three rows, 20 apart: six copies.
 
+#![tactic(auto)]
+
 mod copies;
 mod laws;
 mod matrix;

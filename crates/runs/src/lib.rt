@@ -2,6 +2,8 @@
 //!
 //! A file is the 13 magic bytes and then records, each directly behind the one before, up to END at the file's last byte.
 
+#![tactic(auto)]
+
 mod laws;
 mod open;
 mod pass;

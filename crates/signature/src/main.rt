@@ -2,6 +2,8 @@
 //!
 //! The file comes on standard input; the answer is one fact a line.
 
+#![tactic(auto)]
+
 mod report;
 mod text;
 

@@ -2,6 +2,8 @@
 //!
 //! `0E 03 41 42 43` is a CELL record with the name `ABC`: the cell is open after it, and the modal variables are reset.
 
+#![tactic(auto)]
+
 mod dispatch;
 mod fault;
 mod read;

@@ -1,5 +1,7 @@
 //! Examples of tokens that are run: tables of bytes with what they mean, each cut of them, and what is put and read again.
 
+#![tactic(auto)]
+
 #[cfg(test)]
 mod tests {
     use encoding::{put_g_delta, put_signed, put_string, put_unsigned};

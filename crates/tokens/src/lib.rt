@@ -3,6 +3,8 @@
 //! A reader takes the whole file and a place in it. It answers the value that stands there with the place after it,
 //! or a fault with its kind and its place.
 
+#![tactic(auto)]
+
 mod byte;
 mod delta;
 mod fault;

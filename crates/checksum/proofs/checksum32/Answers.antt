@@ -5,6 +5,6 @@ use Rattle.checksum.proofs.checksum32.Goals as goal
 
 pub returns : goal.returns
 returns c =
-    let all = c.add-slice.ensures.sum ∙ ap (λ s. added s c.args.bytes.now) c.new-checksum.ensures.zero in
+    let all = c.add_slice.ensures.sum ∙ ap (λ s. added s c.args.bytes.now) c.new-checksum.ensures.zero in
     let value = c.value.ensures.cut ∙ ap (λ s. s % 2 ^ 32) all ∙ cut_added c.args.bytes.now in
     record { value = value; parts = λ front back e. value ∙ ap checksum_of e ∙ checksum_joined front back }

@@ -7,7 +7,7 @@ use Rattle.bounds.proofs.fit.all_fit.Goals as goal
 pub returns : goal.returns
 returns c =
     let p = spot_at c.args.place in
-    let tests = c.boxes-fit.ensures in
+    let tests = c.boxes_fit.ensures in
     record {
       tests = tests;
       law = λ os vs ro rv d e.

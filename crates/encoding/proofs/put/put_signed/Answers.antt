@@ -7,6 +7,6 @@ use Rattle.encoding.proofs.put.put_signed.Goals as goal
 
 pub returns : goal.returns
 returns c =
-    let code = c.code-of.ensures.code ∙ ap code_of (same_sign c.args.z c.requires.fits) in
-    let puts = put_is (ap shortest code) c.put-unsigned.ensures.puts in
+    let code = c.code_of.ensures.code ∙ ap code_of (same_sign c.args.z c.requires.fits) in
+    let puts = put_is (ap shortest code) c.put_unsigned.ensures.puts in
     record { puts = puts; again = put_again puts (signed_back _ _ c.args.z c.requires.fits) }

@@ -6,16 +6,16 @@ use Rattle.encoding.proofs.put.put_unsigned.Goals as goal
 pub loop-left-init : goal.loop-left-init
 loop-left-init c = putting_all c.args.out.now c.args.at c.args.n c.ranges.n.fits c.requires
 
-pub put-byte-next-requires : goal.put-byte-next-requires
-put-byte-next-requires c = putting_inside _ _ _ _ _ _ c.loop-left.invariant
+pub put_byte-next-requires : goal.put_byte-next-requires
+put_byte-next-requires c = putting_inside _ _ _ _ _ _ c.loop-left.invariant
 
 pub loop-left-preserved : goal.loop-left-preserved
-loop-left-preserved c = putting_more _ _ _ _ _ _ c.loop-left.invariant _ _ c.loop-left-test.true c.put-byte-next.ensures.puts
+loop-left-preserved c = putting_more _ _ _ _ _ _ c.loop-left.invariant _ _ c.loop-left-test.true c.put_byte-next.ensures.puts
 
-pub put-byte-requires : goal.put-byte-requires
-put-byte-requires c = putting_inside _ _ _ _ _ _ c.loop-left.invariant
+pub put_byte-requires : goal.put_byte-requires
+put_byte-requires c = putting_inside _ _ _ _ _ _ c.loop-left.invariant
 
 pub returns : goal.returns
 returns c =
-    let puts = putting_last _ _ _ _ _ _ c.loop-left.invariant _ _ c.loop-left-test.false c.put-byte.ensures.puts in
+    let puts = putting_last _ _ _ _ _ _ c.loop-left.invariant _ _ c.loop-left-test.false c.put_byte.ensures.puts in
     record { puts = puts; again = λ small. put_again puts (unsigned_back _ _ _ small) }

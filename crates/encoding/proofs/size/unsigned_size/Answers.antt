@@ -7,8 +7,8 @@ use Rattle.encoding.proofs.size.unsigned_size.Goals as goal
 pub loop-left-init : goal.loop-left-init
 loop-left-init c = sized_all c.args.n c.ranges.n.fits
 
-pub overflow-add-size : goal.overflow-add-size
-overflow-add-size c = omega (arith, sized_few _ _ _ c.loop-left.invariant)
+pub overflow_add-size : goal.overflow_add-size
+overflow_add-size c = omega (arith, sized_few _ _ _ c.loop-left.invariant)
 
 pub loop-left-preserved : goal.loop-left-preserved
 loop-left-preserved c = sized_more _ _ _ c.loop-left.invariant c.loop-left-test.true

@@ -10,15 +10,15 @@ pub returns-then-scheme-eq-UNSIGNED : goal.returns-then-scheme-eq-UNSIGNED
 unfolding signature_at
 returns-then-scheme-eq-UNSIGNED c = first_way _ (sym (eq-eqb _ _ c.if-scheme-eq-UNSIGNED.true)) refl
 
-pub returns-then-file-at-lt-SIGNATURE-SIZE : goal.returns-then-file-at-lt-SIGNATURE-SIZE
+pub returns-then-file-at-lt-SIGNATURE_SIZE : goal.returns-then-file-at-lt-SIGNATURE_SIZE
 unfolding signature_at
-returns-then-file-at-lt-SIGNATURE-SIZE c =
+returns-then-file-at-lt-SIGNATURE_SIZE c =
     other_way _ (sym (ne_eqb _ _ c.if-scheme-eq-UNSIGNED.false))
-    (other_way _ (sym (lt-leb _ _ c.if-file-at-lt-SIGNATURE-SIZE.true)) c.refuse.ensures.refuses)
+    (other_way _ (sym (lt-leb _ _ c.if-file-at-lt-SIGNATURE_SIZE.true)) c.refuse.ensures.refuses)
 
 pub returns : goal.returns
 unfolding signature_at
 returns c =
     other_way _ (sym (ne_eqb _ _ c.if-scheme-eq-UNSIGNED.false))
-    (first_way _ (sym (le-leb _ _ c.if-file-at-lt-SIGNATURE-SIZE.false))
-    (ap (λ v. got v (c.args.at + 4)) (c.from-le-bytes.ensures ∙ sym (low_four c.args.file.now c.args.at (omega arith)))))
+    (first_way _ (sym (le-leb _ _ c.if-file-at-lt-SIGNATURE_SIZE.false))
+    (ap (λ v. got v (c.args.at + 4)) (c.from_le_bytes.ensures ∙ sym (low_four c.args.file.now c.args.at (omega arith)))))

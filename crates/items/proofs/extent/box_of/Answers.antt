@@ -7,4 +7,4 @@ use Rattle.items.proofs.extent.box_of.Goals as goal
 pub returns : goal.returns
 returns c =
     let t = thing_of c.args.item in
-    record { finds = c.find-box.ensures; law = λ v. subst (Boxed (points_of t)) (sym c.find-box.ensures) (boxed t v) }
+    record { finds = c.find_box.ensures; law = λ v. subst (Boxed (points_of t)) (sym c.find_box.ensures) (boxed t v) }

@@ -7,4 +7,4 @@ use Rattle.items.proofs.validity.is_valid.Goals as goal
 pub returns : goal.returns
 returns c =
     let t = thing_of c.args.item in
-    record { tests = c.are-fields.ensures; law = Decides-at _ (valid t) c.are-fields.ensures (decided t) }
+    record { tests = c.are_fields.ensures; law = Decides-at _ (valid t) c.are_fields.ensures (decided t) }

@@ -9,8 +9,8 @@ loop-p-preserved c =
     let ps = c.args.points.now in
     let i = c.loop-p.p-index in
     let e = ap length (points_more ps i c.loop-p-test.true) ∙ length-append (spaced (coordinates (take i ps))) (point_fields (get_or ps i origin)) in
-    let n = c.numbers-size-size.ensures.bytes ∙ ap (λ l. length (spaced l)) c.point-numbers.ensures in
-    (omega (arith, c.loop-p.invariant.0, e, n), omega (arith, c.loop-p.invariant.1, c.numbers-size-size.ensures.few))
+    let n = c.numbers_size-size.ensures.bytes ∙ ap (λ l. length (spaced l)) c.point_numbers.ensures in
+    (omega (arith, c.loop-p.invariant.0, e, n), omega (arith, c.loop-p.invariant.1, c.numbers_size-size.ensures.few))
 
 pub returns : goal.returns
 returns c =

@@ -6,4 +6,4 @@ use Rattle.listing.proofs.field.put_text.Goals as goal
 
 pub returns : goal.returns
 returns c =
-    record { puts = put_is (ap (λ b. space ∷ b) (sym (append-nil c.args.bytes.now))) (put_then c.put-byte-next.ensures.puts c.put-bytes.ensures.puts) }
+    record { puts = put_is (ap (λ b. space ∷ b) (sym (append-nil c.args.bytes.now))) (put_then c.put_byte-next.ensures.puts c.put_bytes.ensures.puts) }

@@ -4,6 +4,6 @@ use Rattle.listing.specs.Lines.{spaced}
 use Rattle.listing.proofs.Lines.{first_none}
 use Rattle.listing.proofs.line.put_first.Goals as goal
 
-pub returns-in-default : goal.returns-in-default
-returns-in-default c =
-    put_is (sym (ap spaced (first_none c.args.item c.in-default.not-Cell c.in-default.not-Placement))) (put_none c.args.out.now c.args.at (omega (arith, c.requires)))
+pub returns-in_default : goal.returns-in_default
+returns-in_default c =
+    put_is (sym (ap spaced (first_none c.args.item c.in_default.not-Cell c.in_default.not-Placement))) (put_none c.args.out.now c.args.at (omega (arith, c.requires)))

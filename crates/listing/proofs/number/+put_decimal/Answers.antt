@@ -4,19 +4,19 @@ use Rattle.encoding.proofs.Laying.{put_is, put_then, put-length}
 use Rattle.listing.proofs.Decimals.{one_digit, one_length, more_length}
 use Rattle.listing.proofs.number.+put_decimal.Goals as goal
 
-pub put-byte-requires : goal.put-byte-requires
-put-byte-requires t c = omega (arith, c.requires, one_length c.args.n (omega arith))
+pub put_byte-requires : goal.put_byte-requires
+put_byte-requires t c = omega (arith, c.requires, one_length c.args.n (omega arith))
 
 pub returns-then-n-lt-RADIX : goal.returns-then-n-lt-RADIX
-returns-then-n-lt-RADIX t c = put_is (one_digit c.args.n (omega arith)) c.put-byte.ensures.puts
+returns-then-n-lt-RADIX t c = put_is (one_digit c.args.n (omega arith)) c.put_byte.ensures.puts
 
-pub put-decimal-next-requires : goal.put-decimal-next-requires
-put-decimal-next-requires t c = omega (arith, c.requires, more_length c.args.n (omega arith) c.ranges.n.fits)
+pub put_decimal-next-requires : goal.put_decimal-next-requires
+put_decimal-next-requires t c = omega (arith, c.requires, more_length c.args.n (omega arith) c.ranges.n.fits)
 
-pub put-byte-requires-2 : goal.put-byte-requires-2
-put-byte-requires-2 t c =
-    omega (arith, c.requires, more_length c.args.n (omega arith) c.ranges.n.fits, c.put-decimal-next.ensures.next, put-length c.put-decimal-next.ensures)
+pub put_byte-requires-2 : goal.put_byte-requires-2
+put_byte-requires-2 t c =
+    omega (arith, c.requires, more_length c.args.n (omega arith) c.ranges.n.fits, c.put_decimal-next.ensures.next, put-length c.put_decimal-next.ensures)
 
 pub returns : goal.returns
 returns t c =
-    put_is (sym (decimal_step c.args.n (omega arith) c.ranges.n.fits)) (put_then c.put-decimal-next.ensures c.put-byte-2.ensures.puts)
+    put_is (sym (decimal_step c.args.n (omega arith) c.ranges.n.fits)) (put_then c.put_decimal-next.ensures c.put_byte-2.ensures.puts)

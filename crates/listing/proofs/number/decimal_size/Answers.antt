@@ -5,8 +5,8 @@ use Rattle.listing.proofs.number.decimal_size.Goals as goal
 pub loop-left-init : goal.loop-left-init
 loop-left-init c = (omega arith, c.ranges.n.fits)
 
-pub overflow-add-size : goal.overflow-add-size
-overflow-add-size c = omega (arith, c.loop-left.invariant.0, few_digits c.args.n c.ranges.n.fits)
+pub overflow_add-size : goal.overflow_add-size
+overflow_add-size c = omega (arith, c.loop-left.invariant.0, few_digits c.args.n c.ranges.n.fits)
 
 pub loop-left-preserved : goal.loop-left-preserved
 loop-left-preserved c =

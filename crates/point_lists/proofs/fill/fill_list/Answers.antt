@@ -5,5 +5,5 @@ use Rattle.point_lists.proofs.fill.fill_list.Goals as goal
 
 pub returns : goal.returns
 returns c =
-    let both = all_laid c.args.first c.args.out.now (point_list c.args.file.now c.args.at c.args.closed) c.in-Ok.list c.write-list.result c.write-list.new.out c.in-Ok.ensures.reads c.if-list-out.false (sym c.if-not-reaches.ensures.tells) c.write-list.ensures in
+    let both = all_laid c.args.first c.args.out.now (point_list c.args.file.now c.args.at c.args.closed) c.in-Ok.list c.write_list.result c.write_list.new.out c.in-Ok.ensures.reads c.if-list-out.false (sym c.if-not-reaches.ensures.tells) c.write_list.ensures in
     record { counts = both.0; writes = both.1 }

@@ -14,11 +14,11 @@ stepped : (c : In-Ok) → Stepped c.loop-i.walk c.in-Ok.step.value
 stepped c =
     ((advanced_made c.args.kind c.args.file.now c.loop-i.place c.loop-i.walk c.loop-i.invariant.0).on _ c.in-Ok.ensures).2
 
-pub returns-in-default : goal.returns-in-default
-returns-in-default c = record {
+pub returns-in_default : goal.returns-in_default
+returns-in_default c = record {
   steady = tt;
   writes =
-      (c.in-default.field-0, sym c.loop-i.invariant.1 ∙ tally_stop (advanced c.args.kind c.args.file.now) (written c.args.first) _ c.args.count c.loop-i.i _ _ _ (omega arith) c.in-default.ensures);
+      (c.in_default.field-0, sym c.loop-i.invariant.1 ∙ tally_stop (advanced c.args.kind c.args.file.now) (written c.args.first) _ c.args.count c.loop-i.i _ _ _ (omega arith) c.in_default.ensures);
 }
 
 pub plus-requires : goal.plus-requires

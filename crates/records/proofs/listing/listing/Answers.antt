@@ -6,6 +6,6 @@ use Rattle.records.proofs.listing.listing.Goals as goal
 pub returns-then-file-gt-LONGEST : goal.returns-then-file-gt-LONGEST
 returns-then-file-gt-LONGEST c =
     record {
-      lines = IfOk-weaker c.from-slice.result _ _
-          (λ v h. h.0 ∙ c.as-bytes.ensures.value ∙ too_long c.args.file.now c.if-file-gt-LONGEST.true) c.from-slice.ensures.made;
+      lines = IfOk-weaker c.from_slice.result _ _
+          (λ v h. h.0 ∙ c.as_bytes.ensures.value ∙ too_long c.args.file.now c.if-file-gt-LONGEST.true) c.from_slice.ensures.made;
     }

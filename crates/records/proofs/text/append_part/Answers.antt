@@ -5,6 +5,6 @@ use Rattle.records.proofs.text.append_part.Goals as goal
 pub returns : goal.returns
 returns c =
     record {
-      grows = appended c.extend-from-slice.result (vec_items c.args.out.now) _ _ _ (32 ∷ []) _ c.in-ok-push.ensures.items c.clipped.ensures.part
-          c.extend-from-slice.ensures.items;
+      grows = appended c.extend_from_slice.result (vec_items c.args.out.now) _ _ _ (32 ∷ []) _ c.in_ok-push.ensures.items c.clipped.ensures.part
+          c.extend_from_slice.ensures.items;
     }

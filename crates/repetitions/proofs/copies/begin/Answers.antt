@@ -3,8 +3,8 @@ use Rattle.repetitions.specs.Plans.{Sound}
 use Rattle.repetitions.specs.Walks.{walk_of}
 use Rattle.repetitions.proofs.copies.begin.Goals as goal
 
-pub overflow-add-walk : goal.overflow-add-walk
-overflow-add-walk c = let z = subst Sound c.in-Listed.is c.requires in omega (arith, z.spaces)
+pub overflow_add-walk : goal.overflow_add-walk
+overflow_add-walk c = let z = subst Sound c.in-Listed.is c.requires in omega (arith, z.spaces)
 
 pub returns-in-Uniform : goal.returns-in-Uniform
 returns-in-Uniform c = sym (ap (λ p. walk_of p c.args.next) c.in-Uniform.is)

@@ -6,11 +6,11 @@ use Rattle.repetitions.proofs.copies.next_in_matrix.Goals as goal
 pub returns-then-walk : goal.returns-then-walk
 returns-then-walk c =
     let w = c.args.walk.now in
-    left_step w.matrix w.column w.row (sym c.if-not-is-inside.ensures) (omega arith)
-    ∙ ap (λ p. p ∷ left_from w.matrix (w.column + 1) w.row) (sym c.copy-at-copy.ensures)
+    left_step w.matrix w.column w.row (sym c.if-not-is_inside.ensures) (omega arith)
+    ∙ ap (λ p. p ∷ left_from w.matrix (w.column + 1) w.row) (sym c.copy_at-copy.ensures)
 
 pub returns-else-walk : goal.returns-else-walk
 returns-else-walk c =
     let w = c.args.walk.now in
-    left_turn w.matrix w.column w.row (sym c.if-not-is-inside.ensures) (omega arith)
-    ∙ ap (λ p. p ∷ left_from w.matrix 0 (w.row + 1)) (sym c.copy-at-copy.ensures)
+    left_turn w.matrix w.column w.row (sym c.if-not-is_inside.ensures) (omega arith)
+    ∙ ap (λ p. p ∷ left_from w.matrix 0 (w.row + 1)) (sym c.copy_at-copy.ensures)

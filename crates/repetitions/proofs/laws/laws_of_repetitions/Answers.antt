@@ -11,9 +11,9 @@ returns c =
     record {
       made = repetition_made;
       local = repetition_local;
-      matrix-order = matrix_in_order;
-      matrix-whole = λ columns rows across up. rows_length across up columns 0 rows;
-      list-order = list_in_order;
-      list-whole = spread-length;
+      matrix_order = matrix_in_order;
+      matrix_whole = λ columns rows across up. rows_length across up columns 0 rows;
+      list_order = list_in_order;
+      list_whole = spread-length;
       examples = examples_hold;
     }

@@ -4,24 +4,24 @@ use Rattle.tokens.proofs.Chaining.{going, ending, first_way, other_way, exited}
 use Rattle.repetitions.specs.Plans.{line_at}
 use Rattle.repetitions.proofs.plan.read_line.Goals as goal
 
-pub returns-in-err-n : goal.returns-in-err-n
+pub returns-in_err-n : goal.returns-in_err-n
 unfolding line_at
-returns-in-err-n c = ending _ c.in-err-n.ensures.reads (exited _ c.from-residual.ensures.1)
+returns-in_err-n c = ending _ c.in_err-n.ensures.reads (exited _ c.from_residual.ensures.1)
 
-pub returns-then-n-gt-MOST-COPIES : goal.returns-then-n-gt-MOST-COPIES
+pub returns-then-n-gt-MOST_COPIES : goal.returns-then-n-gt-MOST_COPIES
 unfolding line_at
-returns-then-n-gt-MOST-COPIES c =
-    going _ c.in-ok-n.ensures.reads (other_way _ (sym (lt-leb _ _ c.if-n-gt-MOST-COPIES.true)) c.refuse.ensures.refuses)
+returns-then-n-gt-MOST_COPIES c =
+    going _ c.in_ok-n.ensures.reads (other_way _ (sym (lt-leb _ _ c.if-n-gt-MOST_COPIES.true)) c.refuse.ensures.refuses)
 
-pub returns-in-err-space : goal.returns-in-err-space
+pub returns-in_err-space : goal.returns-in_err-space
 unfolding line_at
-returns-in-err-space c =
-    going _ c.in-ok-n.ensures.reads
-    (first_way _ (sym (le-leb _ _ c.if-n-gt-MOST-COPIES.false))
-    (ending _ c.in-err-space.ensures.reads (exited _ c.from-residual-in-err-space.ensures.1)))
+returns-in_err-space c =
+    going _ c.in_ok-n.ensures.reads
+    (first_way _ (sym (le-leb _ _ c.if-n-gt-MOST_COPIES.false))
+    (ending _ c.in_err-space.ensures.reads (exited _ c.from_residual-in_err-space.ensures.1)))
 
 pub returns : goal.returns
 unfolding line_at
 returns c =
-    going _ c.in-ok-n.ensures.reads
-    (first_way _ (sym (le-leb _ _ c.if-n-gt-MOST-COPIES.false)) (going _ c.in-ok-space.ensures.reads refl))
+    going _ c.in_ok-n.ensures.reads
+    (first_way _ (sym (le-leb _ _ c.if-n-gt-MOST_COPIES.false)) (going _ c.in_ok-space.ensures.reads refl))

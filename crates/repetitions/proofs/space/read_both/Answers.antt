@@ -3,8 +3,8 @@ use Rattle.std.proofs.lemmas.Int.{to_z-of_z}
 use Rattle.tokens.proofs.Chaining.{going, ending, exited}
 use Rattle.repetitions.proofs.space.read_both.Goals as goal
 
-pub returns-in-err-delta : goal.returns-in-err-delta
-returns-in-err-delta c = ending _ c.in-err-delta.ensures.reads (exited _ c.from-residual.ensures.1)
+pub returns-in_err-delta : goal.returns-in_err-delta
+returns-in_err-delta c = ending _ c.in_err-delta.ensures.reads (exited _ c.from_residual.ensures.1)
 
 pub returns : goal.returns
-returns c = going _ c.in-ok-delta.ensures.reads (grind (arith, to_z-of_z))
+returns c = going _ c.in_ok-delta.ensures.reads (grind (arith, to_z-of_z))

@@ -5,8 +5,8 @@ use Rattle.bounds.specs.Points.{point}
 use Rattle.tokens.proofs.Chaining.{going, ending, exited}
 use Rattle.repetitions.proofs.space.read_up.Goals as goal
 
-pub returns-in-err-size : goal.returns-in-err-size
-returns-in-err-size c = ending _ c.in-err-size.ensures.reads (exited _ c.from-residual.ensures.1)
+pub returns-in_err-size : goal.returns-in_err-size
+returns-in_err-size c = ending _ c.in_err-size.ensures.reads (exited _ c.from_residual.ensures.1)
 
 pub returns : goal.returns
-returns c = going _ c.in-ok-size.ensures.reads (ap (λ z. got (point (pos 0) z) c.in-ok-size.size.next) (omega (arith, ints, c.in-ok-size.ensures.within)))
+returns c = going _ c.in_ok-size.ensures.reads (ap (λ z. got (point (pos 0) z) c.in_ok-size.size.next) (omega (arith, ints, c.in_ok-size.ensures.within)))

@@ -2,11 +2,11 @@ use Rattle.std.proofs.Common.{arith, w64, SFits, rules}
 use Rattle.repetitions.proofs.Products.{wide_room, wide_back}
 use Rattle.repetitions.proofs.spread.widened.Goals as goal
 
-pub overflow-mul-x : goal.overflow-mul-x
-overflow-mul-x c = let f : SFits w64 c.args.p.x = search rules in wide_room c.args.grid c.args.p.x (omega arith) f
+pub overflow_mul-x : goal.overflow_mul-x
+overflow_mul-x c = let f : SFits w64 c.args.p.x = search rules in wide_room c.args.grid c.args.p.x (omega arith) f
 
-pub overflow-mul-y : goal.overflow-mul-y
-overflow-mul-y c = let f : SFits w64 c.args.p.y = search rules in wide_room c.args.grid c.args.p.y (omega arith) f
+pub overflow_mul-y : goal.overflow_mul-y
+overflow_mul-y c = let f : SFits w64 c.args.p.y = search rules in wide_room c.args.grid c.args.p.y (omega arith) f
 
 pub returns : goal.returns
 returns c =

@@ -7,16 +7,16 @@ use Rattle.runs.proofs.pass.feed_pass.Goals as goal
 use Rattle.runs.proofs.pass.feed_pass.Goals.{In-Some}
 
 moved : (g : given.Over) (c : In-Some g) → Went c.args.file.now c.loop-found.walk.position c.next.new.self.position c.in-Some.found
-moved g c = went _ c.loop-found.walk.file.now _ _ _ _ c.loop-found.invariant.1 c.in-Some.is c.in-ok-found.ensures.answer c.next.ensures.moved
+moved g c = went _ c.loop-found.walk.file.now _ _ _ _ c.loop-found.invariant.1 c.in-Some.is c.in_ok-found.ensures.answer c.next.ensures.moved
 
-pub returns-in-err-found : goal.returns-in-err-found
-returns-in-err-found g c =
+pub returns-in_err-found : goal.returns-in_err-found
+returns-in_err-found g c =
     let p = g.P.Pass in
     let s = p.state c.loop-found.pass in
     record {
       runs =
-          ap (λ r. ended r s) (exits c.from-residual-in-err-found.result c.in-err-found.field-0.0 c.from-residual-in-err-found.ensures.1)
-          ∙ sym (ap (over p.grown s) (broke _ c.loop-found.walk.file.now c.loop-found.walk.position _ c.loop-found.invariant.1 c.in-err-found.ensures.answer))
+          ap (λ r. ended r s) (exits c.from_residual-in_err-found.result c.in_err-found.field-0.0 c.from_residual-in_err-found.ensures.1)
+          ∙ sym (ap (over p.grown s) (broke _ c.loop-found.walk.file.now c.loop-found.walk.position _ c.loop-found.invariant.1 c.in_err-found.ensures.answer))
           ∙ c.loop-found.invariant.0;
     }
 
@@ -30,21 +30,21 @@ loop-found-preserved g c =
     let s = p.state c.loop-found.pass in
     let on = walked c.args.file.now c.next.new.self.position in (
       ap (λ u. over p.grown u on) c.take.ensures.after
-          ∙ sym (on_taken (p.grown s c.in-Some.found) s (λ u. over p.grown u on) (sym c.in-ok-take.ensures.answer))
+          ∙ sym (on_taken (p.grown s c.in-Some.found) s (λ u. over p.grown u on) (sym c.in_ok-take.ensures.answer))
           ∙ sym (ap (over p.grown s) w.on) ∙ c.loop-found.invariant.0,
       ap (λ r. r.now) c.next.ensures.same ∙ c.loop-found.invariant.1,
     )
 
-pub returns-in-err-take : goal.returns-in-err-take
-returns-in-err-take g c =
+pub returns-in_err-take : goal.returns-in_err-take
+returns-in_err-take g c =
     let p = g.P.Pass in
-    let w = moved g (goal.at.returns-in-err-take g c).In-Some in
+    let w = moved g (goal.at.returns-in_err-take g c).In-Some in
     let s = p.state c.loop-found.pass in
     let on = walked c.args.file.now c.next.new.self.position in
     record {
       runs =
-          ap (λ r. ended r (p.state c.take.new.self)) (exits c.from-residual-in-err-take.result c.in-err-take.field-0.0 c.from-residual-in-err-take.ensures.1)
-          ∙ sym (on_refused (p.grown s c.in-Some.found) _ (λ u. over p.grown u on) (sym c.in-err-take.ensures.answer))
+          ap (λ r. ended r (p.state c.take.new.self)) (exits c.from_residual-in_err-take.result c.in_err-take.field-0.0 c.from_residual-in_err-take.ensures.1)
+          ∙ sym (on_refused (p.grown s c.in-Some.found) _ (λ u. over p.grown u on) (sym c.in_err-take.ensures.answer))
           ∙ sym (ap (over p.grown s) w.on) ∙ c.loop-found.invariant.0;
     }
 
@@ -53,5 +53,5 @@ returns g c =
     let p = g.P.Pass in
     let s = p.state c.loop-found.pass in
     record {
-      runs = sym (ap (over p.grown s) (stopped _ c.loop-found.walk.file.now c.loop-found.walk.position _ c.loop-found.invariant.1 c.in-default.is c.in-ok-found.ensures.answer)) ∙ c.loop-found.invariant.0;
+      runs = sym (ap (over p.grown s) (stopped _ c.loop-found.walk.file.now c.loop-found.walk.position _ c.loop-found.invariant.1 c.in_default.is c.in_ok-found.ensures.answer)) ∙ c.loop-found.invariant.0;
     }

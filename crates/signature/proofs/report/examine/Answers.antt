@@ -5,7 +5,7 @@ use Rattle.signature.proofs.report.examine.Goals as goal
 pub returns-then-length-lt-SHORTEST : goal.returns-then-length-lt-SHORTEST
 returns-then-length-lt-SHORTEST c =
     let found = findings_short c.args.file.now c.if-length-eq0.false c.if-length-lt-SHORTEST.true in
-    let magic = c.has-magic-magic.ensures.begins in
+    let magic = c.has_magic-magic.ensures.begins in
     record {
       report = cc;
       framed = λ body mark f. absurd (omega (arith, c.if-length-lt-SHORTEST.true, framed_room c.args.file.now body mark f));
@@ -16,9 +16,9 @@ pub returns-then-magic : goal.returns-then-magic
 returns-then-magic c =
     let room = c.if-length-lt-SHORTEST.false in
     let begins = sym c.if-magic.ensures.begins in
-    let both = c.read-signature.ensures.both in
+    let both = c.read_signature.ensures.both in
     let found = findings_both c.args.file.now room begins in
-    let magic = c.has-magic-magic.ensures.begins in
+    let magic = c.has_magic-magic.ensures.begins in
     record {
       report = cc;
       framed = λ body mark f. ap Ok (both ∙ framed_signature c.args.file.now body mark f);

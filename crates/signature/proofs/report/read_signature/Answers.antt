@@ -5,6 +5,6 @@ use Rattle.signature.proofs.report.read_signature.Goals as goal
 
 pub returns : goal.returns
 returns c =
-    let stored = c.from-le-bytes-stored.ensures ∙ sym (low_four c.args.file.now (length c.args.file.now - 4) (omega (arith, c.requires))) in
+    let stored = c.from_le_bytes-stored.ensures ∙ sym (low_four c.args.file.now (length c.args.file.now - 4) (omega (arith, c.requires))) in
     let computed = c.checksum32-computed.ensures.value in
     record { both = cc }

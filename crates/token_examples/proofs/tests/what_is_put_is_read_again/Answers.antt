@@ -4,23 +4,23 @@ use Rattle.tokens.specs.Encodings.{shortest}
 use Rattle.encoding.proofs.Laying.{put-length}
 use Rattle.token_examples.proofs.tests.what_is_put_is_read_again.Goals as goal
 
-pub put-unsigned-next-requires : goal.put-unsigned-next-requires
+pub put_unsigned-next-requires : goal.put_unsigned-next-requires
 unfolding shortest
-put-unsigned-next-requires c = lit≤ tt
+put_unsigned-next-requires c = lit≤ tt
 
-pub put-signed-next-requires : goal.put-signed-next-requires
+pub put_signed-next-requires : goal.put_signed-next-requires
 unfolding shortest
-put-signed-next-requires c = record { fits = lit≤ tt; room = omega (arith, put-length c.put-unsigned-next.ensures.puts) }
+put_signed-next-requires c = record { fits = lit≤ tt; room = omega (arith, put-length c.put_unsigned-next.ensures.puts) }
 
-pub put-g-delta-next-requires : goal.put-g-delta-next-requires
+pub put_g_delta-next-requires : goal.put_g_delta-next-requires
 unfolding shortest
-put-g-delta-next-requires c =
+put_g_delta-next-requires c =
     record {
       fits = (lit≤ tt, lit≤ tt);
-      room = omega (arith, put-length c.put-unsigned-next.ensures.puts, put-length c.put-signed-next.ensures.puts);
+      room = omega (arith, put-length c.put_unsigned-next.ensures.puts, put-length c.put_signed-next.ensures.puts);
     }
 
-pub put-string-next-requires : goal.put-string-next-requires
+pub put_string-next-requires : goal.put_string-next-requires
 unfolding shortest
-put-string-next-requires c =
-    omega (arith, put-length c.put-unsigned-next.ensures.puts, put-length c.put-signed-next.ensures.puts, put-length c.put-g-delta-next.ensures.puts)
+put_string-next-requires c =
+    omega (arith, put-length c.put_unsigned-next.ensures.puts, put-length c.put_signed-next.ensures.puts, put-length c.put_g_delta-next.ensures.puts)

@@ -9,19 +9,19 @@ returns-then-k-rest c =
     let e = cut_here c.loop-k.value c.loop-k.scale c.loop-k.k c.args.rest.now (omega arith) c.loop-k.invariant.2 c.if-k-rest.true in
     c.refuse.ensures.refuses ∙ sym (ap (placed c.args.at) e)
 
-pub overflow-mul-value : goal.overflow-mul-value
-overflow-mul-value c = omega (arith, scale_small c.loop-k.k (omega arith), mul-le c.from.result c.loop-k.scale 127 c.loop-k.scale (omega arith) (omega arith))
+pub overflow_mul-value : goal.overflow_mul-value
+overflow_mul-value c = omega (arith, scale_small c.loop-k.k (omega arith), mul-le c.from.result c.loop-k.scale 127 c.loop-k.scale (omega arith) (omega arith))
 
-pub overflow-add-value : goal.overflow-add-value
-overflow-add-value c = omega (arith, scale_small c.loop-k.k (omega arith), mul-le c.from.result c.loop-k.scale 127 c.loop-k.scale (omega arith) (omega arith))
+pub overflow_add-value : goal.overflow_add-value
+overflow_add-value c = omega (arith, scale_small c.loop-k.k (omega arith), mul-le c.from.result c.loop-k.scale 127 c.loop-k.scale (omega arith) (omega arith))
 
 pub returns-then-byte-lt-RADIX : goal.returns-then-byte-lt-RADIX
 returns-then-byte-lt-RADIX c =
     let e = last_here c.loop-k.value c.loop-k.scale c.loop-k.k c.args.rest.now (omega arith) c.loop-k.invariant.2 c.if-k-rest.false c.if-byte-lt-RADIX.true in
     c.limited.ensures ∙ sym (ap (placed c.args.at) (rw (← c.from.ensures) at e))
 
-pub overflow-mul-scale : goal.overflow-mul-scale
-overflow-mul-scale c =
+pub overflow_mul-scale : goal.overflow_mul-scale
+overflow_mul-scale c =
     let s : c.loop-k.scale * c.from-scale.result ≡ c.loop-k.scale * radix = ap (λ n. c.loop-k.scale * n) c.from-scale.ensures in
     omega (arith, scale_small c.loop-k.k (omega arith))
 

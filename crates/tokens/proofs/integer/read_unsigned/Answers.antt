@@ -13,5 +13,5 @@ returns-then-at-file c =
 pub returns : goal.returns
 unfolding unsigned
 returns c =
-    let e = rw take_rest at c.read-chain.ensures in
+    let e = rw take_rest at c.read_chain.ensures in
     record { reads = e; within = unsigned-within c.args.file.now c.args.at _ e }

@@ -9,9 +9,9 @@ returns-in-Ok c =
     let n = c.args.self.now in
     let s = c.in-Ok.ensures in
     record {
-      answer = told_made n c.args.class c.args.fields _ _ c.live.ensures c.row-for-new.ensures c.args.at _ s.answer;
-      rows = names_made n c.args.class c.args.fields _ _ c.live.ensures c.row-for-new.ensures (shown n.file.now (table c.enter_row.new.table)) s.rows;
-      memory = memory_made n c.args.class c.args.fields _ _ c.live.ensures c.row-for-new.ensures _ s.memory;
+      answer = told_made n c.args.class c.args.fields _ _ c.live.ensures c.row_for-new.ensures c.args.at _ s.answer;
+      rows = names_made n c.args.class c.args.fields _ _ c.live.ensures c.row_for-new.ensures (shown n.file.now (table c.enter_row.new.table)) s.rows;
+      memory = memory_made n c.args.class c.args.fields _ _ c.live.ensures c.row_for-new.ensures _ s.memory;
       file = refl;
       lender = s.lender;
     }
@@ -21,9 +21,9 @@ returns-in-Err c =
     let n = c.args.self.now in
     let s = c.in-Err.ensures in
     record {
-      answer = told-refused n c.args.class c.args.fields _ _ c.live.ensures c.row-for-new.ensures c.args.at _ s.answer;
-      rows = names_made n c.args.class c.args.fields _ _ c.live.ensures c.row-for-new.ensures (shown n.file.now (table c.enter_row.new.table)) s.rows;
-      memory = memory_made n c.args.class c.args.fields _ _ c.live.ensures c.row-for-new.ensures _ s.memory;
+      answer = told-refused n c.args.class c.args.fields _ _ c.live.ensures c.row_for-new.ensures c.args.at _ s.answer;
+      rows = names_made n c.args.class c.args.fields _ _ c.live.ensures c.row_for-new.ensures (shown n.file.now (table c.enter_row.new.table)) s.rows;
+      memory = memory_made n c.args.class c.args.fields _ _ c.live.ensures c.row_for-new.ensures _ s.memory;
       file = refl;
       lender = s.lender;
     }
