@@ -8,5 +8,5 @@ use Rattle.point_lists.proofs.read.walk_along.Given as goal
 abbrev pub invariant-loop-i : goal.invariant-loop-i
 invariant-loop-i l =
     Steady l.walk
-    × (tally noted (record { last = l.walk.at; bounds = l.bounds }) (unrolled (advanced l.kind l.file) (l.count - l.-i) l.place l.walk)
+    × (tally noted (record { last = l.walk.at; bounds = l.bounds }) (unrolled (advanced l.kind l.file) (l.count - l._i) l.place l.walk)
     ≡ tally noted untoured (walked l.kind l.count l.file l.at))
