@@ -27,7 +27,7 @@ pub struct Start {
 fn is_version(bytes: &[u8]) -> bool
     ensures { result ≡ bytes_eq bytes.now version }
 {
-    bytes == &VERSION
+    bytes == VERSION.as_slice()
 }
 
 // The version at the place `at`.
