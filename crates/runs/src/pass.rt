@@ -27,7 +27,7 @@ pub trait Pass {
 
 // Hands each record of a file to a pass, up to the first fault of the file or refusal of the pass.
 fn feed_pass<P: Pass>(file: &[u8], pass: &mut P) -> Result<(), Fault>
-    ensures runs { ended result (state pass.new) ≡ over grown (state pass.old) (run file.now) }
+    ensures runs { ended result (P.Pass.state pass.new) ≡ over P.Pass.grown (P.Pass.state pass.old) (run file.now) }
 {
     let mut walk = Walk::over(file)?;
     while let Some(found) = walk.next()? {
@@ -39,7 +39,7 @@ fn feed_pass<P: Pass>(file: &[u8], pass: &mut P) -> Result<(), Fault>
 /// Hands each record of a file to a pass, up to the first fault of the file or refusal of the pass. Where neither comes, the
 /// file is whole: the magic, and records one behind the other up to END at its last byte.
 pub fn run_pass<P: Pass>(file: &[u8], pass: &mut P) -> Result<(), Fault>
-    ensures runs { ended result (state pass.new) ≡ over grown (state pass.old) (run file.now) }
+    ensures runs { ended result (P.Pass.state pass.new) ≡ over P.Pass.grown (P.Pass.state pass.old) (run file.now) }
     ensures whole { OnOk result (Whole file.now (records_of (run file.now))) }
 {
     feed_pass(file, pass)
