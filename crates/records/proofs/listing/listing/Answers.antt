@@ -7,5 +7,5 @@ pub returns-then-file-gt-LONGEST : goal.returns-then-file-gt-LONGEST
 returns-then-file-gt-LONGEST c =
     record {
       lines = IfOk-weaker c.from_slice.result _ _
-          (λ v h. h.0 ∙ c.as_bytes.ensures.value ∙ too_long c.args.file.now c.if-file-gt-LONGEST.true) c.from_slice.ensures.made;
+          (λ v h. h ∙ c.as_bytes.ensures.value ∙ too_long c.args.file.now c.if-file-gt-LONGEST.true) c.from_slice.ensures.items;
     }
