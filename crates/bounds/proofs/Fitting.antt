@@ -1,13 +1,13 @@
 -- Every vertex of every copy is in reach just where the sums of the two boxes are.
-use Rattle.std.proofs.Common.{◌≡◌, ℕ, ◌≤◌, Bool, true, false, ◌&&◌, leb, List, [], ◌∷◌, ◌++◌, map, ℤ, pos, ◌+ℤ◌, ◌-ℤ◌, neg_ℤ, nat_abs, ◌≤ℤ◌, Decides, sym, refl, ap, ◌∙◌, subst, arith}
-use Rattle.std.specs.List.{flat_map, AllByRecursion as All}
+use Rattle.std.proofs.Common.{◌≡◌, ℕ, true, leb, List, [], ◌∷◌, ◌++◌, map, pos, ◌+ℤ◌, ◌-ℤ◌, neg_ℤ, nat_abs, Decides, refl, arith}
+use Rattle.std.specs.List.{AllByRecursion as All}
 use Rattle.std.proofs.ByRecursion.{All-append, All-map, All-weaker, Decides-by_and}
 use Rattle.std.proofs.lemmas.Int.{ints}
 use Rattle.std.proofs.lemmas.Bool.{and_parts, and_from, leb-true, le-leb}
 use Rattle.std.proofs.lemmas.Bool.Decides.{same_from_decides}
 use Rattle.bounds.specs.declared.point.Point.{Point}
 use Rattle.bounds.specs.declared.bounds.Bounds.{Bounds}
-use Rattle.bounds.specs.Points.{reach, point, origin, sum, Near, within, all_within, Rooted, places}
+use Rattle.bounds.specs.Points.{reach, sum, Near, within, all_within, Rooted, places}
 use Rattle.bounds.specs.Boxes.{nothing, bounds_of, low_of, high_of, boxes_fit}
 use Rattle.bounds.proofs.Frames.{Inside, Holds, folded_out, bounds_out, bounds_in}
 

@@ -1,11 +1,11 @@
 -- A box around points is inside a frame just where the points are.
-use Rattle.std.proofs.Common.{◌≡◌, ℕ, ◌≤◌, Bool, true, false, ◌&&◌, leb, List, [], ◌∷◌, ◌++◌, map, ℤ, pos, ◌+ℤ◌, ◌-ℤ◌, neg_ℤ, nat_abs, ◌≤ℤ◌, Decides, fold, sym, refl, ap, ◌∙◌, subst, arith}
-use Rattle.std.specs.List.{flat_map, AllByRecursion as All}
+use Rattle.std.proofs.Common.{List, [], ◌∷◌, ◌≤ℤ◌, fold, subst, arith}
+use Rattle.std.specs.List.{AllByRecursion as All}
 use Rattle.std.proofs.lemmas.Int.{ints, clamps}
 use Rattle.bounds.specs.declared.point.Point.{Point}
 use Rattle.bounds.specs.declared.bounds.Bounds.{Bounds}
-use Rattle.bounds.specs.Points.{reach, point, origin, sum, Near, within, all_within, Rooted, places}
-use Rattle.bounds.specs.Boxes.{nothing, grown, bounds_of, low_of, high_of, boxes_fit}
+use Rattle.bounds.specs.Points.{origin, Rooted}
+use Rattle.bounds.specs.Boxes.{nothing, grown, bounds_of}
 
 -- a point inside a frame
 pub record Inside (f : Bounds) (p : Point) : Type 0 where

@@ -1,29 +1,24 @@
 -- The explicit bytes of a valid item are read as records that draw exactly that item.
-use Rattle.std.proofs.Common.{◌≡◌, ℕ, ◌+◌, ◌-◌, ◌≤◌, Bool, true, false, ◌&&◌, leb, List, [], ◌∷◌, ◌++◌, map, length, drop, ℤ, Ok, sym, refl, ap, ◌∙◌, subst, ap₂, arith, length-drop}
+use Rattle.std.proofs.Common.{◌≡◌, ℕ, ◌+◌, ◌-◌, ◌≤◌, Bool, true, false, ◌&&◌, leb, List, [], ◌∷◌, length, sym, refl, ap, ◌∙◌, ap₂, arith, length-drop}
 use Rattle.std.proofs.lemmas.List.{append-nil, length-append}
 use Rattle.std.proofs.lemmas.Bool.{and_parts, leb-true}
-use Rattle.tokens.specs.declared.text.StringRule.{StringRule}
 use Rattle.tokens.specs.declared.text.StringRule.TheVariants.{Name, Ascii}
 use Rattle.tokens.specs.Chains.{largest}
-use Rattle.tokens.specs.Encodings.{text_bytes, FitsText, FitsUnit}
+use Rattle.tokens.specs.Encodings.{text_bytes, FitsText}
 use Rattle.tokens.specs.Texts.{obeys}
 use Rattle.bounds.specs.declared.point.Point.{Point}
 use Rattle.bounds.specs.Points.{reach, origin, sum, within}
-use Rattle.point_lists.specs.Lists.{point_list}
 use Rattle.point_lists.proofs.Fills.{sum-origin}
 use Rattle.frames.specs.Laws.{sum_before}
 use Rattle.fields.specs.declared.number.Layers.{Layers}
 use Rattle.fields.specs.declared.number.Sides.{Sides}
 use Rattle.fields.specs.declared.stroke.Stroke.{Stroke}
-use Rattle.fields.specs.Shapes.{points_or}
 use Rattle.elements.specs.declared.element.Element.{Element}
-use Rattle.steps.specs.declared.state.FileState.TheVariants as state
 use Rattle.steps.specs.declared.state.Position.{Position}
-use Rattle.items.specs.Sequences.{kind_of, starting, naming, element, ending}
 use Rattle.items.specs.Things.{Thing, a_start, a_cell, a_placement, a_text, a_rectangle, a_polygon, a_path, an_end}
-use Rattle.items.specs.Validity.{valid, named, worded, turned, in_file, Drawn}
+use Rattle.items.specs.Validity.{named, worded, turned, in_file, Drawn}
 use Rattle.items.proofs.Tests.{decided}
-use Rattle.explicit.specs.Bytes.{start_bytes, end_bytes, cell_bytes, placement_bytes, label_bytes, rectangle_bytes, polygon_bytes, path_bytes, layers_bytes, stroke_bytes}
+use Rattle.explicit.specs.Bytes.{end_bytes, placement_bytes, label_bytes, rectangle_bytes, polygon_bytes, path_bytes, layers_bytes, stroke_bytes}
 use Rattle.explicit.specs.Contents.{placement_of, label_of, rectangle_of, polygon_of, path_of, shown_vertices}
 use Rattle.explicit.specs.Laws as laws
 use Rattle.explicit.specs.Legal.{FitsVertices}
@@ -31,7 +26,6 @@ use Rattle.explicit.proofs.Records.{placement_read, text_read, rectangle_read, p
 use Rattle.explicit.proofs.Shown.{texts_shown, vertices-shown}
 use Rattle.drawing.specs.Drawn.{Naming, vertices_from, copies_of, SpelledElement}
 use Rattle.drawing.specs.Laws.{Draws, InCell, ElementsRead, CellsRead, StartsRead, EndsRead}
-use Rattle.drawing.specs.Written.{record_bytes}
 
 -- a name, and a text, that a string can hold
 name_fits : (n : List ℕ) → named n ≡ true → FitsText Name n

@@ -8,7 +8,7 @@ use Rattle.frames.specs.Laws.{sum_before}
 use Rattle.items.specs.Sequences.{kind_of, element}
 use Rattle.items.specs.Things.{Thing, a_start, a_cell, an_end}
 use Rattle.items.specs.Validity.{valid}
-use Rattle.explicit.specs.Bytes.{start_bytes, end_bytes, cell_bytes}
+use Rattle.explicit.specs.Bytes.{end_bytes}
 use Rattle.explicit.specs.Laws.{Between}
 use Rattle.drawing.specs.Drawn.{Naming, items_of, Plain}
 use Rattle.drawing.specs.Written.{record_bytes}

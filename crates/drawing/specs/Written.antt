@@ -1,6 +1,5 @@
 -- The explicit form of items: every field given, nothing inherited.
-use Rattle.std.specs.Prelude.{ℕ, ◌+◌, ◌%◌, List, [], ◌∷◌, ◌++◌, sum}
-use Rattle.bounds.specs.declared.point.Point.{Point}
+use Rattle.std.specs.Prelude.{ℕ, ◌+◌, List, [], ◌∷◌, ◌++◌, sum}
 use Rattle.frames.specs.Laws.{end_bytes as end_fields}
 use Rattle.runs.specs.Runs.{magic}
 use Rattle.items.specs.Things.{Thing, a_start, a_cell, a_placement, a_text, a_rectangle, a_polygon, a_path, an_end}

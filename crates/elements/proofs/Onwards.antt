@@ -1,5 +1,5 @@
 -- Each element takes at least one byte, and stays in the file.
-use Rattle.std.proofs.Common.{ℕ, suc, ◌≤◌, Bool, true, false, ◌&&◌, List, [], ◌∷◌, arith}
+use Rattle.std.proofs.Common.{ℕ, suc, true, false, ◌&&◌, List, [], ◌∷◌, arith}
 use Rattle.tokens.specs.declared.text.StringRule.TheVariants.{Name, Ascii}
 use Rattle.tokens.specs.Bytes.{flag}
 use Rattle.tokens.proofs.Bytes.{byte_made}

@@ -1,5 +1,5 @@
 -- The info byte of an element.
-use Rattle.std.specs.Prelude.{ℕ, Bool, cond, ◌&&◌, List}
+use Rattle.std.specs.Prelude.{ℕ, cond, ◌&&◌, List}
 use Rattle.tokens.specs.declared.fault.FaultKind.TheVariants.{Reserved}
 use Rattle.tokens.specs.Answers.{Answer, got, fault, then}
 use Rattle.tokens.specs.Bytes.{byte_at, flag}

@@ -1,5 +1,5 @@
 -- What is known in short of repetitions and lists is the box around their points, which begin at the origin.
-use Rattle.std.proofs.Common.{◌≡◌, ℕ, suc, Bool, eqb, List, [], ◌∷◌, Some, None, Ok, Err, Option, sym, refl, ap, ◌∙◌, subst}
+use Rattle.std.proofs.Common.{◌≡◌, ℕ, suc, Bool, eqb, List, [], ◌∷◌, Ok, Err, Option, refl, ap, subst}
 use Rattle.tokens.specs.declared.fault.Read.{Read}
 use Rattle.tokens.specs.Answers.{Answer, got, then}
 use Rattle.tokens.specs.Chains.{unsigned}
@@ -8,15 +8,14 @@ use Rattle.tokens.proofs.Chaining.{same_got, not_fault}
 use Rattle.bounds.specs.declared.point.Point.{Point}
 use Rattle.bounds.specs.Points.{origin, Rooted}
 use Rattle.bounds.specs.Boxes.{nothing, bounds_of}
-use Rattle.point_lists.specs.Lists.{point_list, summary_of, summarised as listInShort}
+use Rattle.point_lists.specs.Lists.{point_list, summarised as listInShort}
 use Rattle.point_lists.specs.Laws.{Shaped}
 use Rattle.point_lists.proofs.Shapes.{list_made}
 use Rattle.repetitions.specs.declared.summary.Summary.{Summary}
 use Rattle.repetitions.specs.Laws.{Copied}
-use Rattle.repetitions.specs.Repetitions.{repetition, in_short, summarised as copiesInShort}
+use Rattle.repetitions.specs.Repetitions.{repetition, summarised as copiesInShort}
 use Rattle.repetitions.proofs.Mades.{repetition_made}
 use Rattle.fields.proofs.Gives.{Gives, gives_got, gives_fault, gives_then, gives_cond}
-use Rattle.fields.specs.declared.copies.Spread.{Spread}
 use Rattle.fields.specs.declared.vertices.Outline.{Outline}
 use Rattle.fields.specs.Numbers.{inherited}
 use Rattle.fields.specs.Shapes.{points_or, offsets_of, vertices_of, Boxed, spread_by, copies, outline_at, outline}

@@ -1,10 +1,9 @@
 -- No field is read backwards, and none is read beyond the end of the file.
-use Rattle.std.proofs.Common.{◌≡◌, ℕ, suc, ◌-◌, ◌/◌, ◌%◌, ◌≤◌, Bool, true, false, cond, eqb, leb, List, length, ℤ, pos, nat_abs, Some, None, Ok, Err, Option, refl, arith}
+use Rattle.std.proofs.Common.{◌≡◌, ℕ, ◌/◌, ◌%◌, ◌≤◌, Bool, eqb, leb, List, length, ℤ, pos, nat_abs, Some, None, Ok, Err, Option, refl, arith}
 use Rattle.tokens.specs.declared.fault.Read.{Read}
 use Rattle.tokens.specs.declared.text.StringRule.{StringRule}
 use Rattle.tokens.specs.Answers.{Answer, got, then}
 use Rattle.tokens.specs.Chains.{unsigned}
-use Rattle.tokens.specs.Deltas.{signed}
 use Rattle.tokens.specs.Readers.{Made}
 use Rattle.tokens.proofs.ChainLaws.{unsigned_made}
 use Rattle.tokens.proofs.Deltas.{signed_made}
@@ -12,7 +11,6 @@ use Rattle.tokens.proofs.Mades.{made_got, made_then, made_cond, made_fault, made
 use Rattle.tokens.proofs.Texts.{text_made}
 use Rattle.bounds.specs.declared.point.Point.{Point}
 use Rattle.bounds.specs.Points.{reach, spot_at, all_within, places}
-use Rattle.point_lists.specs.Lists.{point_list}
 use Rattle.point_lists.proofs.Shapes.{summarised_made}
 use Rattle.repetitions.specs.Repetitions.{repetition, summarised as copiesInShort}
 use Rattle.repetitions.proofs.Mades.{repetition_made}

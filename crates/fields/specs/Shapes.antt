@@ -1,5 +1,5 @@
 -- Repetitions and point lists in records: present, or used again at the place where they stand.
-use Rattle.std.specs.Prelude.{◌≡◌, ℕ, Bool, cond, List, [], ◌∷◌, length, Some, None, Ok, Err, Option, ◌==◌}
+use Rattle.std.specs.Prelude.{◌≡◌, ℕ, Bool, cond, List, [], ◌∷◌, Some, None, Ok, Err, Option, ◌==◌}
 use Rattle.tokens.specs.Answers.{Answer, got, then}
 use Rattle.tokens.specs.Chains.{unsigned}
 use Rattle.bounds.specs.declared.point.Point.{Point}

@@ -1,9 +1,8 @@
 -- Laws of the table's definitions.
-use Rattle.std.proofs.Common.{◌≡◌, ℕ, zero, suc, ◌+◌, ◌-◌, ◌<◌, ◌≤◌, min, Bool, true, false, cond, ltb, List, [], ◌∷◌, ◌++◌, length, get_or, take, drop, set, replicate, Some, None, Ok, Err, Option, Result, sym, refl, ap, ◌∙◌, subst, ⊎_elim, arith, length-set, length-take}
+use Rattle.std.proofs.Common.{◌≡◌, ℕ, zero, suc, ◌+◌, ◌-◌, ◌<◌, ◌≤◌, min, Bool, true, false, cond, ltb, List, [], ◌∷◌, ◌++◌, length, get_or, take, drop, set, replicate, Some, None, Ok, Err, sym, refl, ap, ◌∙◌, ⊎_elim, arith, length-take}
 use Rattle.std.proofs.lemmas.List.{at_drop_more, at_drop_all, take_all, take_more_set, length-take-le, set-append_right, length-replicate, drop_more, drop_all, append_assoc, append-nil, replicate_more}
 use Rattle.std.proofs.lemmas.Bool.{cond-true, cond-false, lt-ltb, le-ltb, cases_lt}
 use Rattle.keyed.specs.declared.table.Entry.{Entry}
-use Rattle.keyed.specs.declared.table.NoRow.{NoRow}
 use Rattle.keyed.specs.Rows.{place, updated, added, laid, next_place, changed}
 
 module _ {R : Type 0} (p : R → Bool) (xs : List R) (i : ℕ) where

@@ -1,5 +1,5 @@
 -- The elements of a list that come first of their like, in order.
-use Rattle.std.specs.Prelude.{Bool, true, false, cond, not, ◌||◌, List, [], ◌∷◌, Some, None, filter, Option}
+use Rattle.std.specs.Prelude.{Bool, false, cond, not, ◌||◌, List, [], ◌∷◌, Some, None, filter, Option}
 use Rattle.std.specs.List.{AllByRecursion as All}
 
 module _ {X : Type 0} where

@@ -1,5 +1,5 @@
 -- What finding a key in rows means.
-use Rattle.std.specs.Prelude.{◌≡◌, ℕ, ◌<◌, List, [], ◌∷◌, length, take, Some, None, Option, ◌≢◌}
+use Rattle.std.specs.Prelude.{◌≡◌, ℕ, ◌<◌, List, length, take, Some, None, Option, ◌≢◌}
 use Rattle.std.specs.List.{HoldsAt, AllByRecursion as All}
 use Rattle.keyed.specs.declared.table.Entry.{Entry}
 

@@ -1,5 +1,5 @@
 -- A table of rows as a list, in order of first coming.
-use Rattle.std.specs.Prelude.{◌≡◌, ℕ, zero, suc, ◌+◌, ◌<◌, ◌≤◌, Bool, cond, List, [], ◌∷◌, ◌++◌, length, take, Some, None, Ok, Err, Option, Result, nat_lt, slice_set}
+use Rattle.std.specs.Prelude.{ℕ, zero, suc, ◌+◌, Bool, cond, List, [], ◌∷◌, ◌++◌, length, take, Some, None, Ok, Err, Option, Result, nat_lt, slice_set}
 use Rattle.keyed.specs.declared.table.Entry.{Entry}
 use Rattle.keyed.specs.declared.table.Table.{Table}
 use Rattle.keyed.specs.declared.table.NoRow.{NoRow}

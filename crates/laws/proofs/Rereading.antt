@@ -1,6 +1,6 @@
 -- The explicit form of items is a file of those items.
-use Rattle.std.proofs.Common.{◌≡◌, ℕ, ◌+◌, ◌-◌, ◌%◌, ◌^◌, ◌<◌, ◌≤◌, Bool, true, false, ◌⊎◌, List, [], ◌∷◌, ◌++◌, length, take, drop, Some, None, Ok, fold, sum, Option, sym, refl, ap, ◌∙◌, subst, ap₂, inl, inr, arith}
-use Rattle.std.specs.List.{between, flat_map, AllByRecursion as All}
+use Rattle.std.proofs.Common.{◌≡◌, ℕ, ◌+◌, ◌%◌, ◌^◌, ◌≤◌, true, false, List, [], ◌∷◌, ◌++◌, length, drop, Some, None, fold, sum, sym, refl, ap, ◌∙◌, subst, ap₂, inl, inr, arith}
+use Rattle.std.specs.List.{between, AllByRecursion as All}
 use Rattle.std.proofs.lemmas.List.{append-nil, append_assoc}
 use Rattle.tokens.proofs.Backs.{after}
 use Rattle.frames.specs.Laws.{end_bytes as end_fields, four_bytes, sum_before}
@@ -16,7 +16,7 @@ use Rattle.steps.specs.declared.state.Record.TheVariants as content
 use Rattle.steps.specs.declared.state.RecordAt.{RecordAt}
 use Rattle.runs.specs.Laws as run
 use Rattle.runs.specs.Laws.{Sequence, records_of}
-use Rattle.runs.specs.Runs.{magic, longest, at_start}
+use Rattle.runs.specs.Runs.{longest, at_start}
 use Rattle.runs.proofs.Progress.{step_lands}
 use Rattle.runs.proofs.Sequences.{sequence_is_run}
 use Rattle.name_table.specs.Records.{Seen, Agree}
@@ -29,12 +29,12 @@ use Rattle.items.specs.Validity.{valid}
 use Rattle.items.proofs.Orders.{whole}
 use Rattle.explicit.specs.Bytes.{start_bytes, end_bytes, cell_bytes}
 use Rattle.explicit.specs.Laws.{Between}
-use Rattle.drawing.specs.Drawn.{Naming, items_of, Spelled, SpelledElement, Plain}
+use Rattle.drawing.specs.Drawn.{Naming, Spelled, SpelledElement, Plain}
 use Rattle.drawing.specs.Laws.{Draws, InCell}
 use Rattle.drawing.specs.Written.{record_bytes, written, explicit_form}
 use Rattle.drawing.proofs.Readings.{elements_read, cells_drawn, starts_read, ends_read}
-use Rattle.laws.specs.Files.{cell_names, text_strings, names_in, names_of, naming_of, items_in, items, refers_at, refers_in, references, Known, Allowed}
-use Rattle.laws.specs.Laws.{Drawable, ReadAgain, Reread, FormsDistinct}
+use Rattle.laws.specs.Files.{cell_names, text_strings, names_in, names_of, naming_of, items_in, items, refers_at, refers_in, references, Known}
+use Rattle.laws.specs.Laws.{Drawable, Reread, FormsDistinct}
 use Rattle.laws.proofs.Sums.{sum-grown, four_cut}
 
 -- the rest of a file from a position draws these items, and has nothing to do with name records

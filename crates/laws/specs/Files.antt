@@ -1,5 +1,5 @@
 -- Whole files: which are allowed, and the items that they define.
-use Rattle.std.specs.Prelude.{◌≡◌, ℕ, ◌<◌, Bool, cond, List, [], ◌∷◌, Some, None, Option, nat_lt}
+use Rattle.std.specs.Prelude.{◌≡◌, ℕ, cond, List, [], ◌∷◌, Some, None, Option, nat_lt}
 use Rattle.std.specs.List.{flat_map, AllByRecursion as All}
 use Rattle.fields.specs.declared.reference.Reference.{Reference}
 use Rattle.fields.specs.declared.reference.Reference.TheVariants.{Given, Number}

@@ -1,5 +1,5 @@
 -- What is proved of explicit forms.
-use Rattle.std.specs.Prelude.{◌≡◌, ℕ, ◌≤◌, true, List, [], length}
+use Rattle.std.specs.Prelude.{◌≡◌, ◌≤◌, true, List, [], length}
 use Rattle.std.specs.List.{AllByRecursion as All}
 use Rattle.runs.specs.Laws.{records_of}
 use Rattle.runs.specs.Runs.{longest, run}

@@ -1,9 +1,7 @@
 -- Elements that are read with legal variables are legal, and so are the variables after them.
-use Rattle.std.proofs.Common.{◌≡◌, ℕ, ◌/◌, ◌%◌, ◌≤◌, Bool, true, false, List, [], ◌∷◌, sym, refl, ap, subst, arith}
-use Rattle.tokens.specs.declared.fault.Read.{Read}
+use Rattle.std.proofs.Common.{◌≡◌, ℕ, ◌/◌, ◌%◌, ◌≤◌, Bool, true, false, List, [], ◌∷◌, subst, arith}
 use Rattle.tokens.specs.declared.text.StringRule.TheVariants.{Name, Ascii}
 use Rattle.tokens.specs.Answers.{Answer, got}
-use Rattle.bounds.specs.declared.point.Point.{Point}
 use Rattle.bounds.specs.Points.{origin}
 use Rattle.point_lists.specs.Lists.{point_list}
 use Rattle.fields.specs.declared.anchor.Anchor.{Anchor}
@@ -19,8 +17,8 @@ use Rattle.fields.proofs.Gives.{Gives, gives_got, gives_then}
 use Rattle.elements.specs.declared.element.Drawn.{Drawn}
 use Rattle.elements.specs.Elements.{stored_layers, placement, text, rectangle, polygon, path, figure_present, has_list}
 use Rattle.elements.specs.Infos.{info, rectangle_info, form_of, present_of, following}
-use Rattle.legality.specs.Laws.{DrawsLegally, ElementsLegal}
-use Rattle.legality.specs.Legal.{LegalLayers, LegalReference, Spread, Listed, LegalElement, KeptLayers, Kept}
+use Rattle.legality.specs.Laws.{ElementsLegal}
+use Rattle.legality.specs.Legal.{LegalLayers, LegalElement, KeptLayers, Kept}
 use Rattle.legality.proofs.Fields.{layers_legal, sides_legal, reference_legal, stroke_legal, outline_legal, LegalAnchor, anchor_legal}
 
 -- a legal element, and legal variables

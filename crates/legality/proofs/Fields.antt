@@ -1,5 +1,5 @@
 -- Fields are legal, given or inherited.
-use Rattle.std.proofs.Common.{◌≡◌, ℕ, suc, ◌+◌, ◌-◌, ◌/◌, ◌%◌, ◌<◌, ◌≤◌, Bool, true, false, cond, eqb, leb, List, [], ◌∷◌, length, ℤ, pos, nat_abs, Some, None, Ok, Err, Option, sym, refl, ap, ◌∙◌, subst, arith}
+use Rattle.std.proofs.Common.{◌≡◌, ℕ, suc, ◌+◌, ◌-◌, ◌/◌, ◌%◌, Bool, cond, eqb, leb, List, length, ℤ, pos, nat_abs, Some, None, Ok, Err, Option, sym, refl, ap, ◌∙◌, subst, arith}
 use Rattle.std.specs.List.{between}
 use Rattle.std.proofs.lemmas.Bool.{leb-true}
 use Rattle.tokens.specs.declared.fault.Read.{Read}
@@ -16,7 +16,6 @@ use Rattle.bounds.specs.declared.point.Point.{Point}
 use Rattle.bounds.specs.Points.{reach, spot_at, all_within, places}
 use Rattle.bounds.proofs.Fitting.{all_within_lem}
 use Rattle.point_lists.specs.Lists.{point_list, summarised as listInShort}
-use Rattle.point_lists.specs.declared.read.ListSummary.{ListSummary}
 use Rattle.point_lists.specs.Laws.{Shaped}
 use Rattle.point_lists.proofs.Shapes.{list_made}
 use Rattle.repetitions.specs.declared.summary.Summary.{Summary}
@@ -37,10 +36,10 @@ use Rattle.fields.specs.declared.vertices.Outline.{Outline}
 use Rattle.fields.specs.Anchors.{spot, anchor}
 use Rattle.fields.specs.Numbers.{inherited, field, measure, has_layer, has_datatype, has_width, has_height, is_square, layers, sides}
 use Rattle.fields.specs.References.{part_at, string_at, number_at, reference}
-use Rattle.fields.specs.Shapes.{points_or, offsets_of, vertices_of, spread_by, copies, outline_at, outline}
+use Rattle.fields.specs.Shapes.{points_or, offsets_of, spread_by, copies, outline_at, outline}
 use Rattle.fields.specs.Strokes.{has_half, has_extensions, extension, extensions_by, extensions, stroke}
 use Rattle.fields.proofs.Gives.{Gives, gives_got, gives_fault, gives_then, gives_cond, gives_of}
-use Rattle.legality.specs.Legal.{Holds, Fits, InReach, SignedInReach, LegalLayers, LegalSides, LegalStroke, LegalText, LegalReference, RepetitionAt, ListAt, LegalRepetition, Spread, Listed, KeptLayers}
+use Rattle.legality.specs.Legal.{Holds, Fits, InReach, SignedInReach, LegalLayers, LegalSides, LegalStroke, LegalText, LegalReference, RepetitionAt, LegalRepetition, Spread, Listed, KeptLayers}
 
 -- an inherited value is that of a variable
 inherited_legal : {A : Type 0} {P : A → Type 0} (at first : ℕ) (v : Option A) → Holds P v → Gives (inherited at first v) P

@@ -1,14 +1,12 @@
 -- Each record of a run is legal.
-use Rattle.std.proofs.Common.{◌≡◌, ℕ, suc, ◌+◌, ◌≤◌, Bool, true, false, eqb, List, [], ◌∷◌, length, Some, None, Ok, Err, Option, Result, sym, refl, ap, ◌∙◌, subst, arith}
+use Rattle.std.proofs.Common.{◌≡◌, ℕ, Bool, true, false, eqb, List, Some, None, Ok, Err, Option, Result, sym, refl, subst, arith}
 use Rattle.std.specs.List.{AllByRecursion as All}
 use Rattle.tokens.specs.declared.fault.FaultKind.{FaultKind}
-use Rattle.tokens.specs.declared.fault.Read.{Read}
 use Rattle.tokens.specs.declared.text.StringRule.{StringRule}
 use Rattle.tokens.specs.declared.text.StringRule.TheVariants.{Name, Ascii}
 use Rattle.tokens.specs.Answers.{Answer}
 use Rattle.tokens.specs.Chains.{unsigned}
 use Rattle.tokens.specs.Outcomes.{on_ok}
-use Rattle.names.specs.declared.read.NameFields.{NameFields}
 use Rattle.names.specs.Fields.{name_fields}
 use Rattle.names.specs.Laws.{Numbered}
 use Rattle.names.proofs.Fields.{name_made}
@@ -33,8 +31,8 @@ use Rattle.steps.specs.Contents.{cell_opened, drawn_in, performed}
 use Rattle.steps.specs.Standings.{allowed}
 use Rattle.steps.specs.States.{moded}
 use Rattle.steps.specs.Steps.{enclosed, if_allowed, body, step_of, stepped}
-use Rattle.runs.specs.Laws.{Sequence, none, next, Whole, Faulty, long, unmarked, stuck, Tells, records_of, fault_of}
-use Rattle.runs.specs.Runs.{at_start, run}
+use Rattle.runs.specs.Laws.{Sequence, none, next, Faulty, long, unmarked, stuck, Tells, records_of, fault_of}
+use Rattle.runs.specs.Runs.{run}
 use Rattle.runs.proofs.Sequences.{run_is_sequence}
 use Rattle.legality.specs.Laws.{RunLegal}
 use Rattle.legality.specs.Legal.{Holds, Fits, LegalReference, LegalName, Kept, LegalRecord}

@@ -13,7 +13,6 @@ use Rattle.point_lists.specs.Laws.{Shaped}
 use Rattle.repetitions.specs.Laws.{Copied}
 use Rattle.repetitions.specs.Repetitions.{repetition}
 use Rattle.names.specs.declared.read.NameFields.{NameFields}
-use Rattle.names.specs.Laws.{name_of}
 use Rattle.frames.specs.Ends.{last_scheme}
 use Rattle.fields.specs.declared.copies.Repeated.{Repeated}
 use Rattle.fields.specs.declared.number.Layers.{Layers}

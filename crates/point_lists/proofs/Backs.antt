@@ -1,26 +1,25 @@
 -- A list of type 4 that was written from vertex to vertex is read again.
-use Rattle.std.proofs.Common.{◌≡◌, ℕ, suc, ◌+◌, ◌*◌, ◌≤◌, Bool, true, false, cond, ◌&&◌, leb, List, [], ◌∷◌, ◌++◌, map, length, ℤ, pos, ◌+ℤ◌, ◌-ℤ◌, nat_abs, sym, refl, ap, ◌∙◌, ap₂, arith}
+use Rattle.std.proofs.Common.{◌≡◌, ℕ, ◌+◌, ◌≤◌, Bool, true, false, List, [], ◌∷◌, ◌++◌, map, length, ℤ, pos, ◌+ℤ◌, ◌-ℤ◌, refl, ap, ◌∙◌, ap₂, arith}
 use Rattle.std.specs.List.{AllByRecursion as All}
 use Rattle.std.proofs.lemmas.List.{append-nil}
 use Rattle.std.proofs.lemmas.Int.{ints}
 use Rattle.std.proofs.lemmas.Bool.{cond-true, le-leb}
-use Rattle.tokens.specs.Answers.{Answer, got, then}
+use Rattle.tokens.specs.Answers.{got}
 use Rattle.tokens.specs.Chains.{largest}
-use Rattle.tokens.specs.Encodings.{shortest, code_of, g_delta_bytes, FitsDelta}
+use Rattle.tokens.specs.Encodings.{shortest, g_delta_bytes, FitsDelta}
 use Rattle.tokens.specs.Readers.{Back}
-use Rattle.tokens.proofs.Backs.{back_then, back_last, back_none, back_is}
+use Rattle.tokens.proofs.Backs.{back_then, back_last, back_none}
 use Rattle.tokens.proofs.Encodings.{small_back, unsigned_back, g_delta_back, code_size}
 use Rattle.bounds.specs.declared.point.Point.{Point}
-use Rattle.bounds.specs.Points.{reach, far_reach, point, origin, sum, Near, within, path}
+use Rattle.bounds.specs.Points.{reach, far_reach, origin, sum, Near, within, path}
 use Rattle.bounds.proofs.Fitting.{near_within}
 use Rattle.point_lists.specs.declared.kind.ListKind.TheVariants.{General}
 use Rattle.point_lists.specs.declared.walk.Walk.{Walk}
-use Rattle.point_lists.specs.declared.read.Head.{Head}
 use Rattle.point_lists.specs.Kinds.{good_count, closes, implied}
 use Rattle.point_lists.specs.Walks.{moved, advanced, start}
 use Rattle.point_lists.specs.Rolls.{unrolled}
-use Rattle.point_lists.specs.Lists.{last_of, vectors, vertices, closing, list_head, walked, point_list}
-use Rattle.point_lists.specs.Laws.{gap, delta_bytes, list_bytes, ListBack}
+use Rattle.point_lists.specs.Lists.{last_of, vectors, vertices, closing, list_head, point_list}
+use Rattle.point_lists.specs.Laws.{gap, delta_bytes, ListBack}
 
 -- two gaps make one
 gaps : (a b c : ℤ) → (b -ℤ a) +ℤ (c -ℤ b) ≡ c -ℤ a

@@ -1,12 +1,11 @@
 -- A list in short is what a walk in short gives.
 use Rattle.std.proofs.Common.{◌≡◌, ℕ, suc, ◌+◌, ◌≤◌, Bool, true, false, cond, List, [], ◌∷◌, ◌++◌, map, length, Ok, Err, fold, sym, refl, ap, ◌∙◌, ap₂, arith, length-append}
-use Rattle.tokens.specs.declared.fault.Read.{Read}
 use Rattle.tokens.specs.declared.fault.FaultKind.TheVariants.{BadList}
 use Rattle.tokens.specs.Answers.{Answer, got, fault, then}
 use Rattle.tokens.specs.Readers.{Made}
 use Rattle.tokens.proofs.Mades.{made_weaken}
 use Rattle.bounds.specs.declared.point.Point.{Point}
-use Rattle.bounds.specs.Points.{origin, sum, path}
+use Rattle.bounds.specs.Points.{origin, path}
 use Rattle.bounds.specs.Boxes.{nothing, grown}
 use Rattle.point_lists.specs.declared.kind.ListKind.{ListKind}
 use Rattle.point_lists.specs.declared.walk.Walk.{Walk}

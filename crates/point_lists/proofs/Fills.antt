@@ -1,18 +1,13 @@
 -- Vertices written one after the other stand at the front of memory.
-use Rattle.std.proofs.Common.{◌≡◌, ℕ, suc, ◌+◌, ◌<◌, ◌≤◌, Bool, true, false, cond, List, [], ◌∷◌, ◌++◌, map, length, drop, set, ℤ, pos, ◌+ℤ◌, Ok, Err, fold, sym, refl, ap, ◌∙◌, subst, ap₂, append_assoc, add-zero, add-one, arith, length-append, length-drop}
+use Rattle.std.proofs.Common.{◌≡◌, ℕ, ◌+◌, ◌<◌, ◌≤◌, List, [], ◌∷◌, ◌++◌, map, length, drop, set, ℤ, pos, ◌+ℤ◌, Ok, fold, sym, refl, ap, ◌∙◌, ap₂, append_assoc, add-zero, arith, length-append}
 use Rattle.std.proofs.lemmas.List.{append-nil, drop_more, set_at}
 use Rattle.std.proofs.lemmas.Int.{ints}
-use Rattle.tokens.specs.declared.fault.Read.{Read}
-use Rattle.tokens.specs.declared.fault.TokenFault.{TokenFault}
-use Rattle.tokens.specs.Answers.{Answer, got, then}
-use Rattle.tokens.proofs.Chaining.{same_got, not_fault}
+use Rattle.tokens.specs.Answers.{Answer, got}
+use Rattle.tokens.proofs.Chaining.{same_got}
 use Rattle.bounds.specs.declared.point.Point.{Point}
-use Rattle.bounds.specs.Points.{point, origin, sum, path}
-use Rattle.point_lists.specs.declared.kind.ListKind.{ListKind}
+use Rattle.bounds.specs.Points.{origin, sum}
 use Rattle.point_lists.specs.declared.walk.Walk.{Walk}
-use Rattle.point_lists.specs.declared.read.Head.{Head}
-use Rattle.point_lists.specs.Kinds.{closes, implied}
-use Rattle.point_lists.specs.Lists.{last_of, vectors, vertices, walked, closing, list_head, point_list}
+use Rattle.point_lists.specs.Lists.{last_of}
 use Rattle.point_lists.specs.Fills.{Page, written, filled}
 
 -- points over the front of memory

@@ -1,9 +1,9 @@
 -- The beginning of a list.
-use Rattle.std.proofs.Common.{◌≡◌, ℕ, suc, ◌+◌, ◌≤◌, Bool, true, false, cond, leb, List, length, Some, None, Option, sym, refl, ap, ◌∙◌, arith}
+use Rattle.std.proofs.Common.{◌≡◌, ℕ, suc, ◌≤◌, Bool, true, leb, List, Some, None, Option, ap, ◌∙◌, arith}
 use Rattle.std.proofs.lemmas.Bool.{and_parts, leb-true}
 use Rattle.tokens.specs.declared.fault.FaultKind.TheVariants.{BadType}
-use Rattle.tokens.specs.Answers.{Answer, got, fault, then}
-use Rattle.tokens.specs.Chains.{largest, unsigned}
+use Rattle.tokens.specs.Answers.{Answer, fault}
+use Rattle.tokens.specs.Chains.{largest}
 use Rattle.tokens.specs.Readers.{Made}
 use Rattle.tokens.proofs.ChainLaws.{unsigned_made}
 use Rattle.tokens.proofs.Mades.{made_then, made_cond, made_got, made_fault, made_weaken}

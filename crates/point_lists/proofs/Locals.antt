@@ -1,5 +1,5 @@
 -- A list depends only on the bytes that it takes.
-use Rattle.std.proofs.Common.{ℕ, zero, suc, Bool, cond, List, [], ◌∷◌, Some, None, Option}
+use Rattle.std.proofs.Common.{ℕ, zero, suc, Bool, cond, List, [], Some, None, Option}
 use Rattle.tokens.specs.declared.fault.FaultKind.TheVariants.{BadList}
 use Rattle.tokens.specs.Answers.{Answer, got, fault, then}
 use Rattle.tokens.specs.Chains.{unsigned}
@@ -13,7 +13,7 @@ use Rattle.point_lists.specs.declared.walk.Walk.{Walk}
 use Rattle.point_lists.specs.Kinds.{is_zero, list_kind, good_count, closes}
 use Rattle.point_lists.specs.Walks.{displacement, moved, advanced, start}
 use Rattle.point_lists.specs.Rolls.{unrolled}
-use Rattle.point_lists.specs.Lists.{last_of, vectors, kind_or, list_head, walked, point_list}
+use Rattle.point_lists.specs.Lists.{last_of, vectors, kind_or, list_head, point_list}
 use Rattle.point_lists.specs.Laws.{ListLocal}
 
 displacement_local : (k : ListKind) (across : Bool) → Local (λ file at. displacement k across file at)

@@ -1,22 +1,22 @@
 -- What holds of the vertices of a list.
-use Rattle.std.proofs.Common.{◌≡◌, ℕ, suc, ◌+◌, ◌≤◌, Bool, true, false, cond, List, [], ◌∷◌, ◌++◌, map, length, pos, nat_abs, sym, refl, ap, ◌∙◌, subst, arith, length-append}
+use Rattle.std.proofs.Common.{◌≡◌, ℕ, suc, ◌≤◌, Bool, true, false, List, [], ◌∷◌, ◌++◌, map, length, refl, subst, arith, length-append}
 use Rattle.std.specs.List.{AllByRecursion as All}
 use Rattle.std.proofs.ByRecursion.{All-append}
 use Rattle.tokens.specs.Chains.{largest}
 use Rattle.tokens.specs.Readers.{Made}
-use Rattle.tokens.proofs.Mades.{made_then, made_cond, made_got, made_fault, made_weaken}
+use Rattle.tokens.proofs.Mades.{made_then, made_cond, made_got, made_fault}
 use Rattle.bounds.specs.declared.point.Point.{Point}
-use Rattle.bounds.specs.Points.{far_reach, origin, Near, Rooted, path}
+use Rattle.bounds.specs.Points.{far_reach, origin, Near, path}
 use Rattle.point_lists.specs.declared.kind.ListKind.{ListKind}
 use Rattle.point_lists.specs.declared.kind.ListKind.TheVariants.{AcrossFirst, UpFirst, Manhattan, Octangular, General, Changing}
 use Rattle.point_lists.specs.declared.walk.Walk.{Walk}
 use Rattle.point_lists.specs.Kinds.{good_count, closes, implied}
 use Rattle.point_lists.specs.Walks.{start, Steady}
-use Rattle.point_lists.specs.Lists.{last_of, vectors, vertices, walked, closing, list_head, point_list, summary_of, summarised}
+use Rattle.point_lists.specs.Lists.{last_of, vectors, vertices, point_list, summary_of, summarised}
 use Rattle.point_lists.specs.Laws.{Shaped, ListMade}
 use Rattle.point_lists.proofs.Rolls.{Rolled}
 use Rattle.point_lists.proofs.Steps.{Stepped}
-use Rattle.point_lists.proofs.Heads.{Begun, head_made, good_many}
+use Rattle.point_lists.proofs.Heads.{head_made, good_many}
 use Rattle.point_lists.proofs.Ends.{walked_made, path_from, path-length}
 
 -- the origin is near

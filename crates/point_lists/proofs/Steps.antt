@@ -1,22 +1,21 @@
 -- What a displacement and a step of a walk make: progress, and sizes in bounds.
-use Rattle.std.proofs.Common.{◌≡◌, ℕ, suc, ◌+◌, ◌*◌, ◌≤◌, Bool, true, false, cond, List, length, ℤ, pos, ◌+ℤ◌, nat_abs, sym, refl, ap, ◌∙◌, arith}
+use Rattle.std.proofs.Common.{◌≡◌, ℕ, suc, ◌*◌, ◌≤◌, Bool, true, false, List, ℤ, ◌+ℤ◌, nat_abs, refl, arith}
 use Rattle.std.proofs.lemmas.Int.{ints}
-use Rattle.tokens.specs.declared.fault.Read.{Read}
-use Rattle.tokens.specs.Answers.{Answer, got, then}
+use Rattle.tokens.specs.Answers.{Answer}
 use Rattle.tokens.specs.Chains.{largest}
-use Rattle.tokens.specs.Deltas.{largest_size, signed, two_delta, three_delta, g_delta}
+use Rattle.tokens.specs.Deltas.{largest_size, two_delta, three_delta, g_delta}
 use Rattle.tokens.specs.Laws.{DeltaMade}
 use Rattle.tokens.specs.Readers.{Made}
 use Rattle.tokens.proofs.Deltas.{signed_made, two_delta_made, three_delta_made, g_delta_made}
-use Rattle.tokens.proofs.Mades.{made_then, made_cond, made_got, made_fault, made_weaken}
+use Rattle.tokens.proofs.Mades.{made_then, made_cond, made_got, made_fault}
 use Rattle.bounds.specs.declared.point.Point.{Point}
-use Rattle.bounds.specs.Points.{far_reach, point, sum, Near, within}
+use Rattle.bounds.specs.Points.{far_reach, sum, Near, within}
 use Rattle.bounds.proofs.Fitting.{within_near}
 use Rattle.point_lists.specs.declared.kind.ListKind.{ListKind}
 use Rattle.point_lists.specs.declared.kind.ListKind.TheVariants.{AcrossFirst, UpFirst, Manhattan, Octangular, General, Changing}
 use Rattle.point_lists.specs.declared.walk.Walk.{Walk}
 use Rattle.point_lists.specs.Kinds.{is_zero}
-use Rattle.point_lists.specs.Walks.{one_way, pair_of, alternate, paired, displacement, vector_by, moved, landed, advanced, start, Steady}
+use Rattle.point_lists.specs.Walks.{one_way, pair_of, alternate, paired, displacement, vector_by, moved, advanced, start, Steady}
 
 -- a displacement along one axis is as near as its size
 one_way_near : (across : Bool) (z : ℤ) → nat_abs z ≤ largest_size → Near largest (one_way across z)

@@ -1,5 +1,5 @@
 -- Worked examples, each read from the first byte of a file.
-use Rattle.std.specs.Prelude.{◌≡◌, ℕ, Bool, true, false, List, [], ◌∷◌, ℤ, pos, negsuc}
+use Rattle.std.specs.Prelude.{◌≡◌, ℕ, true, false, List, [], ◌∷◌, pos, negsuc}
 use Rattle.std.specs.List.{AllByRecursion as All}
 use Rattle.tokens.specs.declared.fault.FaultKind.TheVariants.{Cut, BadType, BadList}
 use Rattle.tokens.specs.Answers.{Answer, got, fault}

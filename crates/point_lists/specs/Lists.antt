@@ -4,7 +4,7 @@ use Rattle.tokens.specs.declared.fault.FaultKind.TheVariants.{BadType, BadList}
 use Rattle.tokens.specs.Answers.{Answer, got, fault, then}
 use Rattle.tokens.specs.Chains.{unsigned}
 use Rattle.bounds.specs.declared.point.Point.{Point}
-use Rattle.bounds.specs.Points.{origin, sum, path}
+use Rattle.bounds.specs.Points.{origin, path}
 use Rattle.bounds.specs.Boxes.{nothing, grown, bounds_of}
 use Rattle.point_lists.specs.declared.kind.ListKind.{ListKind}
 use Rattle.point_lists.specs.declared.walk.Walk.{Walk}

@@ -1,5 +1,5 @@
 -- Displacements from vertex to vertex.
-use Rattle.std.specs.Prelude.{ℕ, ◌*◌, Bool, true, false, cond, not, eqb, List, ℤ, pos, nat_abs}
+use Rattle.std.specs.Prelude.{ℕ, ◌*◌, Bool, true, false, cond, not, List, ℤ, pos}
 use Rattle.tokens.specs.declared.fault.FaultKind.TheVariants.{BadList, Reach}
 use Rattle.tokens.specs.Answers.{Answer, got, fault, then}
 use Rattle.tokens.specs.Deltas.{signed, two_delta, three_delta, g_delta}

@@ -1,5 +1,5 @@
 -- The offsets of the copies of a repetition, as plain mathematics.
-use Rattle.std.specs.Prelude.{ℕ, List, [], ◌∷◌, map, pos, ◌*ℤ◌}
+use Rattle.std.specs.Prelude.{ℕ, List, ◌∷◌, map, pos, ◌*ℤ◌}
 use Rattle.std.specs.List.{range_with_len, flat_map}
 use Rattle.bounds.specs.declared.point.Point.{Point}
 use Rattle.bounds.specs.Points.{point, origin, sum, path}

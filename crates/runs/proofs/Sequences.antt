@@ -1,6 +1,5 @@
 -- The run of a file is the sequence of its records.
-use Rattle.std.proofs.Common.{◌≡◌, ℕ, zero, suc, ◌+◌, ◌-◌, ◌<◌, ◌≤◌, Bool, true, false, cond, leb, List, [], ◌∷◌, ◌++◌, length, take, drop, Some, None, Ok, Err, Option, Result, sym, refl, ap, ◌∙◌, subst, arith}
-use Rattle.std.specs.Str.{bytes_eq}
+use Rattle.std.proofs.Common.{◌≡◌, ℕ, zero, suc, ◌-◌, ◌<◌, ◌≤◌, Bool, true, false, cond, leb, List, [], ◌∷◌, ◌++◌, length, take, drop, Some, None, Ok, Err, Option, Result, sym, refl, ap, ◌∙◌, subst, arith}
 use Rattle.std.proofs.lemmas.Slice.Eq.{bytes_eq-Decides}
 use Rattle.std.proofs.lemmas.List.{append-nil, take_at, take-append-drop}
 use Rattle.std.proofs.lemmas.Bool.{cond-true, cond-false, leb-true, leb-false, le-leb, lt-leb}
@@ -12,8 +11,8 @@ use Rattle.steps.specs.declared.state.Position.{Position}
 use Rattle.steps.specs.declared.state.RecordAt.{RecordAt}
 use Rattle.steps.specs.declared.state.Step.{Step}
 use Rattle.steps.specs.Steps.{stepped}
-use Rattle.runs.specs.Laws.{Sequence, none, next, records_of, fault_of, Readable, Whole, Faulty, long, unmarked, stuck, Tells, RunIsSequence, SequenceIsRun}
-use Rattle.runs.specs.Runs.{magic, longest, has_magic, unread, at_start, opened, some_step, turn_in, turn, Trail, more, done, broken, follow, walked, entered, run}
+use Rattle.runs.specs.Laws.{Sequence, none, next, records_of, fault_of, Readable, Faulty, long, unmarked, stuck, Tells, RunIsSequence, SequenceIsRun}
+use Rattle.runs.specs.Runs.{magic, longest, has_magic, unread, at_start, opened, some_step, turn_in, Trail, done, follow, walked, entered, run}
 use Rattle.runs.proofs.Progress.{turn_lands, walked_on}
 
 -- START is due, so no END was read

@@ -6,7 +6,7 @@ use Rattle.steps.specs.declared.fault.Fault.{Fault}
 use Rattle.steps.specs.declared.state.Position.{Position}
 use Rattle.steps.specs.declared.state.RecordAt.{RecordAt}
 use Rattle.steps.specs.declared.state.Step.{Step}
-use Rattle.runs.specs.Runs.{Trail, more, done, broken, turn, given_by, landing, follow, walked}
+use Rattle.runs.specs.Runs.{more, done, broken, turn, given_by, landing, follow, walked}
 use Rattle.runs.proofs.Progress.{turn_lands, walked_on}
 
 -- the walk went over the record r, from the position p to the position q

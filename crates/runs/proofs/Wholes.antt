@@ -1,5 +1,5 @@
 -- A pass that ends well has gone over a whole file.
-use Rattle.std.proofs.Common.{◌≡◌, ℕ, List, IfOk, None, Ok, Err, Result, sym, refl, ap, ◌∙◌, subst, arith}
+use Rattle.std.proofs.Common.{◌≡◌, ℕ, List, IfOk, None, Ok, Err, Result, refl, subst, arith}
 use Rattle.tokens.specs.Outcomes.{on_ok}
 use Rattle.steps.specs.declared.fault.Fault.{Fault}
 use Rattle.steps.specs.declared.state.RecordAt.{RecordAt}

@@ -1,5 +1,5 @@
 -- The pieces that are written make up the lines of a report.
-use Rattle.std.proofs.Common.{◌≡◌, ℕ, Bool, eqb, List, ◌++◌, IfOk, Ok, Err, codes, decimal, Result, sym, refl, ap, ◌∙◌, append_assoc}
+use Rattle.std.proofs.Common.{◌≡◌, ℕ, eqb, List, ◌++◌, IfOk, Ok, Err, codes, decimal, Result, sym, ap, ◌∙◌, append_assoc}
 use Rattle.signature.specs.declared.report.Signature.{Signature}
 use Rattle.signature.specs.declared.report.Absence.{Absence}
 use Rattle.signature.specs.declared.report.Report.{Report}

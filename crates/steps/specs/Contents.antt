@@ -1,5 +1,5 @@
 -- The fields of each record, and what is known after it.
-use Rattle.std.specs.Prelude.{ℕ, Bool, true, false, List, ◌==◌}
+use Rattle.std.specs.Prelude.{ℕ, true, false, List, ◌==◌}
 use Rattle.tokens.specs.declared.text.StringRule.TheVariants.{Name, Ascii}
 use Rattle.tokens.specs.Answers.{Answer, got, then}
 use Rattle.fields.specs.declared.reference.Reference.{Reference}

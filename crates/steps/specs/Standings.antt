@@ -1,5 +1,5 @@
 -- Which record may stand where.
-use Rattle.std.specs.Prelude.{ℕ, Bool, cond, ◌||◌, Ok, Err, Result, ◌==◌}
+use Rattle.std.specs.Prelude.{ℕ, cond, ◌||◌, Ok, Err, Result, ◌==◌}
 use Rattle.tokens.specs.declared.fault.FaultKind.{FaultKind}
 use Rattle.tokens.specs.declared.fault.FaultKind.TheVariants.{NotCarried, OutOfPlace}
 use Rattle.steps.specs.declared.dispatch.Action.{Action}

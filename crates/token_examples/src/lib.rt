@@ -170,7 +170,7 @@ mod tests {
         match read_string(&[0x02, 0x41, 0x7e], 0, StringRule::Name) {
             Ok(read) => {
                 assert_eq!(rt; read.next, 3);
-                assert!(rt; read.value == [0x41, 0x7e]);
+                assert!(rt; read.value == [0x41, 0x7e].as_slice());
             }
             Err(_) => return Err(Fail::new("a name was due")),
         }

@@ -1,4 +1,4 @@
-use Rattle.std.proofs.Common.{◌≡◌, ◌%◌, ◌^◌, sym, ap, ◌∙◌}
+use Rattle.std.proofs.Common.{◌%◌, ◌^◌, ap, ◌∙◌}
 use Rattle.checksum.specs.Sums.{checksum_of, added}
 use Rattle.checksum.proofs.Running.{cut_added, checksum_joined}
 use Rattle.checksum.proofs.checksum32.Goals as goal

@@ -1,4 +1,4 @@
-use Rattle.std.proofs.Common.{◌≡◌, ◌<◌, ◌≤◌, length, get_or, sym, ap, ◌∙◌, arith}
+use Rattle.std.proofs.Common.{ap, ◌∙◌, arith}
 use Rattle.checksum.specs.Sums.{added}
 use Rattle.checksum.proofs.Running.{summed_none, summed_more, summed_all, summed_uncut, added_bytewise, taken_more}
 use Rattle.checksum.proofs.Checksum.add_slice.Goals as goal

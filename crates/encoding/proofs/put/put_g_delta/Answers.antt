@@ -1,5 +1,5 @@
-use Rattle.std.proofs.Common.{◌≡◌, ◌+◌, ◌*◌, length, sym, ap, ◌∙◌, arith, length-append}
-use Rattle.tokens.specs.Encodings.{shortest, code_of, signed_bytes, FitsSigned}
+use Rattle.std.proofs.Common.{◌+◌, ◌*◌, length, ap, arith, length-append}
+use Rattle.tokens.specs.Encodings.{shortest, code_of, signed_bytes}
 use Rattle.tokens.proofs.Encodings.{g_delta_back}
 use Rattle.encoding.proofs.Laying.{put_is, put_then, put_again, put-length}
 use Rattle.encoding.proofs.Signs.{same_sign, first_code}

@@ -1,5 +1,4 @@
-use Rattle.std.proofs.Common.{◌≤◌, sym, arith}
-use Rattle.tokens.specs.Chains.{largest}
+use Rattle.std.proofs.Common.{arith}
 use Rattle.tokens.proofs.Encodings.{shortest_sizes}
 use Rattle.encoding.proofs.Shortest.{sized_all, sized_more, sized_last, sized_few}
 use Rattle.encoding.proofs.size.unsigned_size.Goals as goal

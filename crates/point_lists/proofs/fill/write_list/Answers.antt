@@ -1,6 +1,5 @@
-use Rattle.std.proofs.Common.{◌≡◌, ◌+◌, ◌≤◌, length, set, sym, ap, ◌∙◌, subst, arith, length-set}
+use Rattle.std.proofs.Common.{◌+◌, length, set, sym, ap, ◌∙◌, arith, length-set}
 use Rattle.point_lists.specs.Kinds.{implied}
-use Rattle.point_lists.specs.Fills.{Laid}
 use Rattle.point_lists.proofs.Fills.{walked-laid}
 use Rattle.point_lists.proofs.Opens.{headed, opened, not_stopped, opened-length, opened_last, laid_given, laid-implied}
 use Rattle.point_lists.proofs.fill.write_list.Goals as goal

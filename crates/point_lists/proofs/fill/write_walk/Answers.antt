@@ -1,6 +1,4 @@
 use Rattle.std.proofs.Common.{◌+◌, ◌-◌, set, sym, ap, ◌∙◌, arith}
-use Rattle.tokens.specs.Answers.{Answer}
-use Rattle.bounds.specs.Points.{Near}
 use Rattle.point_lists.specs.Rolls.{tally, unrolled}
 use Rattle.point_lists.specs.Walks.{advanced}
 use Rattle.point_lists.specs.Fills.{written}

@@ -1,4 +1,3 @@
-use Rattle.std.proofs.Common.{◌<◌, ◌≤◌, length, sym}
 use Rattle.tokens.proofs.Mades.{made_by}
 use Rattle.point_lists.proofs.Shapes.{summarised_made}
 use Rattle.point_lists.proofs.read.read_list.Goals as goal

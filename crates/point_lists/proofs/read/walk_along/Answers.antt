@@ -4,7 +4,7 @@ use Rattle.point_lists.specs.Rolls.{tally, unrolled}
 use Rattle.point_lists.specs.Walks.{advanced}
 use Rattle.point_lists.specs.Lists.{noted}
 use Rattle.point_lists.proofs.Rolls.{tally_more, tally_stop, tally_none}
-use Rattle.point_lists.proofs.Steps.{advanced_made, start_steady}
+use Rattle.point_lists.proofs.Steps.{advanced_made}
 use Rattle.point_lists.proofs.read.walk_along.Goals as goal
 
 pub returns-in_err-step : goal.returns-in_err-step

@@ -1,5 +1,3 @@
-use Rattle.std.proofs.Common.{ap, ◌∙◌}
-use Rattle.bounds.specs.Points.{sum}
 use Rattle.point_lists.specs.Walks.{moved}
 use Rattle.point_lists.proofs.walk.moved_by.Goals as goal
 

@@ -1,4 +1,4 @@
-use Rattle.std.proofs.Common.{◌≡◌, Ok, Err, sym, refl, ap, ◌∙◌, arith}
+use Rattle.std.proofs.Common.{sym, ap, ◌∙◌, arith}
 use Rattle.runs.specs.Passes.{ended, over}
 use Rattle.runs.specs.Runs.{walked}
 use Rattle.runs.proofs.Turns.{Went, went, stopped, broke, on_taken, on_refused, exits}

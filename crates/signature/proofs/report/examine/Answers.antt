@@ -1,4 +1,4 @@
-use Rattle.std.proofs.Common.{◌≡◌, Ok, sym, ap, ◌∙◌, arith}
+use Rattle.std.proofs.Common.{Ok, sym, ap, ◌∙◌, arith}
 use Rattle.signature.proofs.Frames.{framed_room, framed_signature, findings_both, findings_short, framed_by}
 use Rattle.signature.proofs.report.examine.Goals as goal
 

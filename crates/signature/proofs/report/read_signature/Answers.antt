@@ -1,5 +1,4 @@
-use Rattle.std.proofs.Common.{◌≡◌, ◌-◌, length, drop, sym, ap, ◌∙◌, arith}
-use Rattle.signature.specs.declared.report.Signature.{Signature}
+use Rattle.std.proofs.Common.{◌-◌, length, sym, ◌∙◌, arith}
 use Rattle.signature.proofs.Frames.{low_four}
 use Rattle.signature.proofs.report.read_signature.Goals as goal
 

@@ -6,15 +6,15 @@ use Rattle.token_examples.proofs.tests.what_is_put_is_read_again.Goals as goal
 
 pub put_unsigned-next-requires : goal.put_unsigned-next-requires
 unfolding shortest
-put_unsigned-next-requires c = lit≤ tt
+put_unsigned-next-requires g c = lit≤ tt
 
 pub put_signed-next-requires : goal.put_signed-next-requires
 unfolding shortest
-put_signed-next-requires c = record { fits = lit≤ tt; room = omega (arith, put-length c.put_unsigned-next.ensures.puts) }
+put_signed-next-requires g c = record { fits = lit≤ tt; room = omega (arith, put-length c.put_unsigned-next.ensures.puts) }
 
 pub put_g_delta-next-requires : goal.put_g_delta-next-requires
 unfolding shortest
-put_g_delta-next-requires c =
+put_g_delta-next-requires g c =
     record {
       fits = (lit≤ tt, lit≤ tt);
       room = omega (arith, put-length c.put_unsigned-next.ensures.puts, put-length c.put_signed-next.ensures.puts);
@@ -22,5 +22,5 @@ put_g_delta-next-requires c =
 
 pub put_string-next-requires : goal.put_string-next-requires
 unfolding shortest
-put_string-next-requires c =
+put_string-next-requires g c =
     omega (arith, put-length c.put_unsigned-next.ensures.puts, put-length c.put_signed-next.ensures.puts, put-length c.put_g_delta-next.ensures.puts)
