@@ -1,6 +1,6 @@
 -- Every vertex of every copy is in reach just where the sums of the two boxes are.
 use Rattle.std.proofs.Common.{◌≡◌, ℕ, true, leb, List, [], ◌∷◌, ◌++◌, map, pos, ◌+ℤ◌, ◌-ℤ◌, neg_ℤ, nat_abs, Decides, refl, arith}
-use Rattle.std.specs.List.{AllByRecursion as All}
+use Rattle.std.specs.List.{AllByRecursion as Every}
 use Rattle.std.proofs.ByRecursion.{All-append, All-map, All-weaker, Decides-by_and}
 use Rattle.std.proofs.lemmas.Int.{ints}
 use Rattle.std.proofs.lemmas.Bool.{and_parts, and_from, leb-true, le-leb}
@@ -19,7 +19,7 @@ pub near_within : (n : ℕ) (p : Point) → Near n p → within n p ≡ true
 near_within n p h = and_from (leb (nat_abs p.x) n) (leb (nat_abs p.y) n) (le-leb _ _ h.x) (le-leb _ _ h.y)
 
 -- and the test of a list whether all are
-pub all_within_lem : (n : ℕ) (ps : List Point) → Decides (all_within n ps) (All (Near n) ps)
+pub all_within_lem : (n : ℕ) (ps : List Point) → Decides (all_within n ps) (Every (Near n) ps)
 all_within_lem n ps = Decides-by_and (within n) (Near n) (all_within n) (λ p. (within_near n p, near_within n p)) refl (λ _ _. refl) ps
 
 -- the points within n of the origin on each axis
@@ -77,23 +77,23 @@ module _ (f : Bounds) (p : Point) where
 
 -- each vertex of each copy
 abbrev Each : (Point → Type 0) → Point → List Point → List Point → Type 0
-Each P p os vs = All (λ o. All (λ v. P (sum (sum p o) v)) vs) os
+Each P p os vs = Every (λ o. Every (λ v. P (sum (sum p o) v)) vs) os
 
-each_out : (P : Point → Type 0) (p : Point) (os vs : List Point) → Each P p os vs → All P (places p os vs)
+each_out : (P : Point → Type 0) (p : Point) (os vs : List Point) → Each P p os vs → Every P (places p os vs)
 each_out P p [] vs a = tt
 each_out P p (o ∷ os) vs a =
     All-append P (map (λ v. sum (sum p o) v) vs) (places p os vs) (All-map P (λ v. sum (sum p o) v) vs a.0) (each_out P p os vs a.1)
 
 -- the two parts of a list
-all_parts : (P : Point → Type 0) (xs ys : List Point) → All P (xs ++ ys) → All P xs × All P ys
+all_parts : (P : Point → Type 0) (xs ys : List Point) → Every P (xs ++ ys) → Every P xs × Every P ys
 all_parts P [] ys a = (tt, a)
 all_parts P (x ∷ xs) ys a = let r = all_parts P xs ys a.1 in ((a.0, r.0), r.1)
 
-mapped : (P : Point → Type 0) (g : Point → Point) (vs : List Point) → All P (map g vs) → All (λ v. P (g v)) vs
+mapped : (P : Point → Type 0) (g : Point → Point) (vs : List Point) → Every P (map g vs) → Every (λ v. P (g v)) vs
 mapped P g [] a = tt
 mapped P g (v ∷ vs) a = (a.0, mapped P g vs a.1)
 
-each_in : (P : Point → Type 0) (p : Point) (os vs : List Point) → All P (places p os vs) → Each P p os vs
+each_in : (P : Point → Type 0) (p : Point) (os vs : List Point) → Every P (places p os vs) → Each P p os vs
 each_in P p [] vs a = tt
 each_in P p (o ∷ os) vs a =
     let r = all_parts P (map (λ v. sum (sum p o) v) vs) (places p os vs) a in
@@ -102,7 +102,7 @@ each_in P p (o ∷ os) vs a =
 -- boxes in a frame, and all vertices of all copies in it
 boxes_out : (f : Bounds) (p : Point) (os vs : List Point) → Holds f (together p (bounds_of os) (bounds_of vs)) → Each (Inside f) p os vs
 boxes_out f p os vs h =
-    All-weaker (Inside (less (back f p) (bounds_of vs))) (λ o. All (λ v. Inside f (sum (sum p o) v)) vs)
+    All-weaker (Inside (less (back f p) (bounds_of vs))) (λ o. Every (λ v. Inside f (sum (sum p o) v)) vs)
     (λ o i. All-weaker (Inside (back f (sum p o))) (λ v. Inside f (sum (sum p o) v)) (one_out f p o) vs (bounds_out (back f (sum p o)) vs (turn f p (bounds_of vs) o i)))
     os (bounds_out (less (back f p) (bounds_of vs)) os (part f p (bounds_of os) (bounds_of vs) h))
 
@@ -110,7 +110,7 @@ boxes_in : (f : Bounds) (p : Point) (os vs : List Point) → Rooted os → Roote
 boxes_in f p os vs ro rv a =
     join f p (bounds_of os) (bounds_of vs)
     (bounds_in (less (back f p) (bounds_of vs)) os ro
-    (All-weaker (λ o. All (λ v. Inside f (sum (sum p o) v)) vs) (Inside (less (back f p) (bounds_of vs)))
+    (All-weaker (λ o. Every (λ v. Inside f (sum (sum p o) v)) vs) (Inside (less (back f p) (bounds_of vs)))
     (λ o i. turned f p (bounds_of vs) o (bounds_in (back f (sum p o)) vs rv (All-weaker (λ v. Inside f (sum (sum p o) v)) (Inside (back f (sum p o))) (one_in f p o) vs i)))
     os a))
 
@@ -147,7 +147,7 @@ hold_boxes p c s a b h =
 pub boxes_tell : (p : Point) (os vs : List Point) → Rooted os → Rooted vs → boxes_fit p (bounds_of os) (bounds_of vs) ≡ all_within reach (places p os vs)
 boxes_tell p os vs ro rv =
     let near = all_within_lem reach (places p os vs) in
-    same_from_decides {P = All (Near reach) (places p os vs)} (boxes_fit p (bounds_of os) (bounds_of vs)) (all_within reach (places p os vs)) (
+    same_from_decides {P = Every (Near reach) (places p os vs)} (boxes_fit p (bounds_of os) (bounds_of vs)) (all_within reach (places p os vs)) (
       (λ e. All-weaker (Inside (square reach)) (Near reach) (inside_near reach) (places p os vs) (each_out (Inside (square reach)) p os vs (boxes_out (square reach) p os vs (boxes_hold p (bounds_of os) (bounds_of vs) e)))),
       (λ a. hold_boxes p (bounds_of os) (bounds_of vs) (bounds_origin os) (bounds_origin vs)
           (boxes_in (square reach) p os vs ro rv (each_in (Inside (square reach)) p os vs (All-weaker (Near reach) (Inside (square reach)) (near_inside reach) (places p os vs) a)))),

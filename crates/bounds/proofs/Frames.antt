@@ -1,6 +1,6 @@
 -- A box around points is inside a frame just where the points are.
 use Rattle.std.proofs.Common.{List, [], ◌∷◌, ◌≤ℤ◌, fold, subst, arith}
-use Rattle.std.specs.List.{AllByRecursion as All}
+use Rattle.std.specs.List.{AllByRecursion as Every}
 use Rattle.std.proofs.lemmas.Int.{ints, clamps}
 use Rattle.bounds.specs.declared.point.Point.{Point}
 use Rattle.bounds.specs.declared.bounds.Bounds.{Bounds}
@@ -48,19 +48,19 @@ module _ (f : Bounds) where
       }
 
   -- a box that has grown around points is inside a frame just where it was and the points are
-  pub folded_out : (b : Bounds) (ps : List Point) → Holds f (fold grown b ps) → Holds f b × All (Inside f) ps
+  pub folded_out : (b : Bounds) (ps : List Point) → Holds f (fold grown b ps) → Holds f b × Every (Inside f) ps
   folded_out b [] h = (h, tt)
   folded_out b (p ∷ ps) h = let r = folded_out (grown b p) ps h in let q = grown_out b p r.0 in (q.0, (q.1, r.1))
 
-  pub folded_in : (b : Bounds) (ps : List Point) → Holds f b → All (Inside f) ps → Holds f (fold grown b ps)
+  pub folded_in : (b : Bounds) (ps : List Point) → Holds f b → Every (Inside f) ps → Holds f (fold grown b ps)
   folded_in b [] h a = h
   folded_in b (p ∷ ps) h a = folded_in (grown b p) ps (grown_in b p h a.0) a.1
 
   -- the box around points that begin at the origin
-  pub bounds_out : (ps : List Point) → Holds f (bounds_of ps) → All (Inside f) ps
+  pub bounds_out : (ps : List Point) → Holds f (bounds_of ps) → Every (Inside f) ps
   bounds_out ps h = (folded_out nothing ps h).1
 
-  pub bounds_in : (ps : List Point) → Rooted ps → All (Inside f) ps → Holds f (bounds_of ps)
+  pub bounds_in : (ps : List Point) → Rooted ps → Every (Inside f) ps → Holds f (bounds_of ps)
   bounds_in ps r a =
-      let h : All (Inside f) (origin ∷ r.others) = subst (All (Inside f)) r.begins a in
+      let h : Every (Inside f) (origin ∷ r.others) = subst (Every (Inside f)) r.begins a in
       folded_in nothing ps (record { left = h.0.left; right = h.0.right; bottom = h.0.bottom; top = h.0.top }) a

@@ -1,7 +1,7 @@
 //! Rectangles, polygons and paths.
 
 ghost use Rattle.std.specs.Prelude.{◌≡◌};
-ghost use Rattle.elements.specs.Elements.{figure_after, sized, closed as closedFigure, drawn as openFigure, rectangle, polygon, path};
+ghost use Rattle.elements.specs.Elements.{figure_after, sized, closed as closed_figure, drawn as open_figure, rectangle, polygon, path};
 
 use crate::element::{Drawn, Element, Path, Polygon, Rectangle};
 use crate::info::{following_at, present_of, read_info, read_rectangle_info};
@@ -91,7 +91,7 @@ pub fn read_rectangle(
 
 // The polygon, and the variables after it.
 fn close(m: Modals, layers: Layers, outline: Outline, anchor: Anchor) -> Drawn
-    ensures { result ≡ closedFigure m layers outline anchor }
+    ensures { result ≡ closed_figure m layers outline anchor }
 {
     let element = Element::Polygon(Polygon {
         layers,
@@ -148,7 +148,7 @@ pub fn read_polygon(
 
 // The path, and the variables after it.
 fn draw(m: Modals, layers: Layers, stroke: Stroke, outline: Outline, anchor: Anchor) -> Drawn
-    ensures { result ≡ openFigure m layers stroke outline anchor }
+    ensures { result ≡ open_figure m layers stroke outline anchor }
 {
     let element = Element::Path(Path {
         layers,

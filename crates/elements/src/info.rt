@@ -1,7 +1,7 @@
 //! The info byte of an element.
 
 ghost use Rattle.std.specs.Prelude.{◌≡◌, ◌&&◌};
-ghost use Rattle.elements.specs.Infos.{info as infoAt, rectangle_info, form_of, present_of, following};
+ghost use Rattle.elements.specs.Infos.{info as info_at, rectangle_info, form_of, present_of, following};
 
 use bounds::Point;
 use fields::{AnchorVariables, Form, Modals, Present};
@@ -13,7 +13,7 @@ const HEIGHT: u8 = 0x20;
 
 /// The info byte at the place `at`, of which the flags of the mask are reserved.
 pub fn read_info(file: &[u8], at: usize, reserved: u8) -> Result<Read<u8>, TokenFault>
-    ensures reads { result ≡ infoAt file.now at reserved }
+    ensures reads { result ≡ info_at file.now at reserved }
 {
     let info = read_byte(file, at)?;
     if has_flag(info.value, reserved) {

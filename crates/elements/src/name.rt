@@ -1,7 +1,7 @@
 //! Placements and texts: elements that refer to a cell or to a text.
 
 ghost use Rattle.std.specs.Prelude.{◌≡◌};
-ghost use Rattle.elements.specs.Elements.{placed, lettered, placement, text as textElement};
+ghost use Rattle.elements.specs.Elements.{placed, lettered, placement, text as text_element};
 
 use crate::element::{Drawn, Element, Placement, Text};
 use crate::info::{following_at, form_of, present_of, read_info};
@@ -125,7 +125,7 @@ fn letter(m: Modals, text: Reference, layers: Layers, anchor: Anchor) -> Drawn
 
 /// The fields of the TEXT record whose first byte is at `first`.
 pub fn read_text(file: &[u8], at: usize, first: usize, m: Modals) -> Result<Read<Drawn>, TokenFault>
-    ensures reads { result ≡ textElement file.now at first m }
+    ensures reads { result ≡ text_element file.now at first m }
 {
     let info = read_info(file, at, TEXT_RESERVED)?;
     let flags = info.value;

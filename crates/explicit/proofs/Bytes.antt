@@ -1,6 +1,6 @@
 -- Explicit bytes are below 256.
 use Rattle.std.proofs.Common.{◌≡◌, ℕ, zero, suc, ◌+◌, ◌*◌, ◌<◌, ◌≤◌, Bool, true, false, ◌&&◌, leb, List, [], ◌∷◌, ◌++◌, length, replicate, ℤ, nat_abs, arith}
-use Rattle.std.specs.List.{AllByRecursion as All}
+use Rattle.std.specs.List.{AllByRecursion as Every}
 use Rattle.std.proofs.ByRecursion.{All-append}
 use Rattle.std.proofs.lemmas.Int.{ints}
 use Rattle.std.proofs.lemmas.Bool.{and_parts, leb-true}
@@ -76,7 +76,7 @@ step p q h k =
     (number (2 * code_of (gap p q).x + 1) (omega (arith, code_size (gap p q).x))) (number (code_of (gap p q).y) (omega (arith, code_size (gap p q).y)))
 
 -- all steps
-steps : (p : Point) (qs : List Point) → Near reach p → All (Near reach) qs → AreBytes (delta_bytes p qs)
+steps : (p : Point) (qs : List Point) → Near reach p → Every (Near reach) qs → AreBytes (delta_bytes p qs)
 steps p [] h k = tt
 steps p (q ∷ qs) h k = both (g_delta_bytes ((gap p q).x, (gap p q).y)) (delta_bytes q qs) (step p q h k.0) (steps q qs k.0 k.1)
 

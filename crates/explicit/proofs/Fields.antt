@@ -1,7 +1,7 @@
 -- Fields that are given are read again.
 use Rattle.std.proofs.Common.{◌≡◌, ℕ, suc, ◌+◌, ◌-◌, ◌≤◌, Bool, true, false, cond, leb, List, [], ◌∷◌, ◌++◌, map, length, ℤ, pos, ◌+ℤ◌, ◌-ℤ◌, nat_abs, None, Option, sym, refl, ap, ◌∙◌, subst, ap₂, arith, length-append}
 use lib.ListN.{length-map}
-use Rattle.std.specs.List.{AllByRecursion as All}
+use Rattle.std.specs.List.{AllByRecursion as Every}
 use Rattle.std.proofs.lemmas.List.{append_assoc}
 use Rattle.std.proofs.lemmas.Int.{ints}
 use Rattle.std.proofs.lemmas.Bool.{cond-true, cond-false, le-leb}
@@ -93,7 +93,7 @@ abbrev pub anchored_at : AnchorVariables → Point → Anchor
 anchored_at v p = record { at = p; repetition = None; stored = v.repetition }
 
 -- a place at which all vertices are in reach
-pub anchor_back : (file : List ℕ) (at first : ℕ) (v : AnchorVariables) (p : Point) (vs : List Point) → v.relative ≡ false → Near reach p → All (Near reach) (places p (origin ∷ []) vs) → Back file at (place_bytes p) (anchor file at first place_given v vs) (anchored_at v p)
+pub anchor_back : (file : List ℕ) (at first : ℕ) (v : AnchorVariables) (p : Point) (vs : List Point) → v.relative ≡ false → Near reach p → Every (Near reach) (places p (origin ∷ []) vs) → Back file at (place_bytes p) (anchor file at first place_given v vs) (anchored_at v p)
 anchor_back file at first v p vs e h all =
     back_last _
     (back_then _ (coordinate_back file at v.relative v.at.x p.x e h.x)
@@ -140,7 +140,7 @@ figure_back file at first closed v w p qs k h e =
           let o : Outline = outlined at closed p qs in
           let r = (list_back file at closed p qs h.first h.others h.few h.enough).again (place_bytes p ++ rest) (s ∙ append_assoc (list_bytes p qs) (place_bytes p) rest) in
           let same : vs ≡ vertices_of file o = ap points_or r in
-          let near : All (Near reach) (places p (origin ∷ []) vs) = subst (All (Near reach)) (sym (from_first p (p ∷ qs))) (h.first, h.others) in
+          let near : Every (Near reach) (places p (origin ∷ []) vs) = subst (Every (Near reach)) (sym (from_first p (p ∷ qs))) (h.first, h.others) in
           (back_then _ (outline_back file at first closed v p qs h)
           (back_last _ (back_is (ap (anchor file n first place_given w) same) (anchor_back file n first w p vs e h.first near)) refl)
           ).again rest s;

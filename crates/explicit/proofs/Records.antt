@@ -47,41 +47,41 @@ step_at file p id bs rest a x l al e b =
 
 -- an element
 element_at : (file rest : List ℕ) (p : Position) (id : ℕ) (bs : List ℕ) (a : Action) (r : Answer Drawn) (e : Element) → id < 128 → allowed state.Cell id ≡ Ok a → performed file (p.at + 1) p.at p.context id a ≡ drawn_in p.context r → DrawnBack file (p.at + 1) bs r e → p.context.state ≡ state.Cell → drop p.at file ≡ (id ∷ bs) ++ rest → ElementRead file p id (id ∷ bs) e
-element_at file rest p id bs a r e l al same d inCell s =
+element_at file rest p id bs a r e l al same d in_cell s =
     let c = p.context in
     record {
       after = d.after;
       absolute = d.absolute;
       read =
-          step_at file p id bs rest a (varied c (content.Element e) d.after) l (ap (λ x. allowed x id) inCell ∙ al) s
+          step_at file p id bs rest a (varied c (content.Element e) d.after) l (ap (λ x. allowed x id) in_cell ∙ al) s
           (back_is (sym same) (back_last _ d.back refl))
-          ∙ ap (λ x. Ok (step_to p.at id (content.Element e) (position (p.at + length (id ∷ bs)) x c.late d.after))) inCell;
+          ∙ ap (λ x. Ok (step_to p.at id (content.Element e) (position (p.at + length (id ∷ bs)) x c.late d.after))) in_cell;
     }
 
 -- a placement
 pub placement_read : PlacementRead
-placement_read a f t q ha hf ht hq file rest p inCell still s =
-    element_at file rest p 17 _ action.Placement _ _ (omega arith) refl refl (placement_back a f t q ha hf ht hq file (p.at + 1) p.at p.context.modals still) inCell s
+placement_read a f t q ha hf ht hq file rest p in_cell still s =
+    element_at file rest p 17 _ action.Placement _ _ (omega arith) refl refl (placement_back a f t q ha hf ht hq file (p.at + 1) p.at p.context.modals still) in_cell s
 
 -- a text
 pub text_read : TextRead
-text_read t l q ht hl hq file rest p inCell still s =
-    element_at file rest p 19 _ action.Text _ _ (omega arith) refl refl (label_back t l q ht hl hq file (p.at + 1) p.at p.context.modals still) inCell s
+text_read t l q ht hl hq file rest p in_cell still s =
+    element_at file rest p 19 _ action.Text _ _ (omega arith) refl refl (label_back t l q ht hl hq file (p.at + 1) p.at p.context.modals still) in_cell s
 
 -- a rectangle
 pub rectangle_read : RectangleRead
-rectangle_read l d q hl hd hq file rest p inCell still s =
-    element_at file rest p 20 _ action.Rectangle _ _ (omega arith) refl refl (rectangle_back l d q hl hd hq file (p.at + 1) p.at p.context.modals still) inCell s
+rectangle_read l d q hl hd hq file rest p in_cell still s =
+    element_at file rest p 20 _ action.Rectangle _ _ (omega arith) refl refl (rectangle_back l d q hl hd hq file (p.at + 1) p.at p.context.modals still) in_cell s
 
 -- a polygon
 pub polygon_read : PolygonRead
-polygon_read l q qs hl hq file rest p inCell still s =
-    element_at file rest p 21 _ action.Polygon _ _ (omega arith) refl refl (polygon_back l q qs hl hq file (p.at + 1) p.at p.context.modals still) inCell s
+polygon_read l q qs hl hq file rest p in_cell still s =
+    element_at file rest p 21 _ action.Polygon _ _ (omega arith) refl refl (polygon_back l q qs hl hq file (p.at + 1) p.at p.context.modals still) in_cell s
 
 -- a path
 pub path_read : PathRead
-path_read l d q qs hl hd hq file rest p inCell still s =
-    element_at file rest p 22 _ action.Path _ _ (omega arith) refl refl (path_back l d q qs hl hd hq file (p.at + 1) p.at p.context.modals still) inCell s
+path_read l d q qs hl hd hq file rest p in_cell still s =
+    element_at file rest p 22 _ action.Path _ _ (omega arith) refl refl (path_back l d q qs hl hd hq file (p.at + 1) p.at p.context.modals still) in_cell s
 
 -- what may stand anywhere between START and END
 anywhere : (p : Position) (id : ℕ) (a : Action) → Between p → allowed state.Top id ≡ Ok a → allowed state.Cell id ≡ Ok a → allowed p.context.state id ≡ Ok a

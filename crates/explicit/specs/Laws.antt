@@ -1,6 +1,6 @@
 -- What is proved of explicit bytes, in the subject's words.
 use Rattle.std.specs.Prelude.{◌≡◌, ℕ, ◌+◌, ◌<◌, ◌≤◌, Bool, true, false, ◌⊎◌, List, ◌∷◌, ◌++◌, length, drop, Ok}
-use Rattle.std.specs.List.{AllByRecursion as All}
+use Rattle.std.specs.List.{AllByRecursion as Every}
 use Rattle.tokens.specs.declared.text.StringRule.TheVariants.{Name, Ascii}
 use Rattle.tokens.specs.Answers.{Answer}
 use Rattle.tokens.specs.Encodings.{byte_values, text_bytes, FitsText, FitsUnit}
@@ -172,7 +172,7 @@ VerticesShown =
 
 -- each of these numbers is a byte
 abbrev pub AreBytes : List ℕ → Type 0
-AreBytes bs = All (λ b. b < byte_values) bs
+AreBytes bs = Every (λ b. b < byte_values) bs
 
 -- so is each of the bytes of a record
 pub record RecordsAreBytes : Type 0 where

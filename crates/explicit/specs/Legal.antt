@@ -1,6 +1,6 @@
 -- The values that explicit bytes can hold.
 use Rattle.std.specs.Prelude.{◌≡◌, ◌≤◌, Bool, true, List, length, unsigned_abs}
-use Rattle.std.specs.List.{AllByRecursion as All}
+use Rattle.std.specs.List.{AllByRecursion as Every}
 use Rattle.tokens.specs.Chains.{largest}
 use Rattle.bounds.specs.declared.point.Point.{Point}
 use Rattle.bounds.specs.Points.{reach, Near}
@@ -27,6 +27,6 @@ pub record FitsStroke (s : Stroke) : Type 0 where
 -- the vertices p and qs of a polygon, or of a path: all in reach, and three at least of a polygon
 pub record FitsVertices (closed : Bool) (p : Point) (qs : List Point) : Type 0 where
   pub first : Near reach p
-  pub others : All (Near reach) qs
+  pub others : Every (Near reach) qs
   pub few : length qs ≤ largest
   pub enough : closed ≡ true → 2 ≤ length qs

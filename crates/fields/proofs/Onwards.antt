@@ -12,7 +12,7 @@ use Rattle.tokens.proofs.Texts.{text_made}
 use Rattle.bounds.specs.declared.point.Point.{Point}
 use Rattle.bounds.specs.Points.{reach, spot_at, all_within, places}
 use Rattle.point_lists.proofs.Shapes.{summarised_made}
-use Rattle.repetitions.specs.Repetitions.{repetition, summarised as copiesInShort}
+use Rattle.repetitions.specs.Repetitions.{repetition, summarised as copies_in_short}
 use Rattle.repetitions.proofs.Mades.{repetition_made}
 use Rattle.fields.specs.declared.anchor.AnchorVariables.{AnchorVariables}
 use Rattle.fields.specs.declared.anchor.Present.{Present}
@@ -113,7 +113,7 @@ module _ (file : List ℕ) where
       made_then _ (measure_goes at first (has_half info) v.half h) (λ w n _ i _.
       made_then _ (extensions_goes n first (has_extensions info) (pos w) v i) (λ e m _ j _. made_got _ m (omega arith) j tt))
 
-  copies-in_short : (at : ℕ) → Onward file at (copiesInShort (repetition file at))
+  copies-in_short : (at : ℕ) → Onward file at (copies_in_short (repetition file at))
   copies-in_short at = made_then _ (made_less (repetition_made file at)) (λ ps n _ i _. made_got _ n (omega arith) i tt)
 
   -- the copies of a record
@@ -123,7 +123,7 @@ module _ (file : List ℕ) where
       (λ _. turning (unsigned file at) _ (λ kind e.
       let b = (unsigned_goes at).on kind e in
       made_cond (eqb kind.value 0)
-      (λ _. onward_of b.0 (made_then _ (inherited_goes kind.next first v b.1) (λ old m _ j _. aside (copiesInShort (repetition file old)) (spread_by old) j)))
+      (λ _. onward_of b.0 (made_then _ (inherited_goes kind.next first v b.1) (λ old m _ j _. aside (copies_in_short (repetition file old)) (spread_by old) j)))
       (λ _. made_then _ (copies-in_short at) (λ s m _ j _. made_got _ m (omega arith) j tt))))
       (λ _. made_got _ at (omega arith) h tt)
 

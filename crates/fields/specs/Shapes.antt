@@ -6,9 +6,9 @@ use Rattle.bounds.specs.declared.point.Point.{Point}
 use Rattle.bounds.specs.declared.bounds.Bounds.{Bounds}
 use Rattle.bounds.specs.Points.{origin, Rooted}
 use Rattle.bounds.specs.Boxes.{nothing, bounds_of}
-use Rattle.point_lists.specs.Lists.{point_list, summarised as listInShort}
+use Rattle.point_lists.specs.Lists.{point_list, summarised as list_in_short}
 use Rattle.repetitions.specs.declared.summary.Summary.{Summary}
-use Rattle.repetitions.specs.Repetitions.{repetition, summarised as copiesInShort}
+use Rattle.repetitions.specs.Repetitions.{repetition, summarised as copies_in_short}
 use Rattle.fields.specs.declared.copies.Repeated.{Repeated}
 use Rattle.fields.specs.declared.copies.Spread.{Spread}
 use Rattle.fields.specs.declared.vertices.Outline.{Outline}
@@ -48,14 +48,14 @@ copies file at first present v =
     cond present
     (then (unsigned file at) λ kind n.
     cond (kind == 0)
-    (then (inherited n first v) λ old i. then (copiesInShort (repetition file old)) λ s _. got (spread_by old s) i)
-    (then (copiesInShort (repetition file at)) λ s i. got (spread_by at s) i))
+    (then (inherited n first v) λ old i. then (copies_in_short (repetition file old)) λ s _. got (spread_by old s) i)
+    (then (copies_in_short (repetition file at)) λ s i. got (spread_by at s) i))
     (got (record { repetition = None; stored = v; bounds = nothing }) at)
 
 -- the list at a place, in short
 abbrev pub outline_at : List ℕ → ℕ → (closed : Bool) → Answer Outline
 outline_at file at closed =
-    then (listInShort (point_list file at closed)) λ s n. got (record { place = at; closed = closed; vertices = s.vertices; bounds = s.bounds }) n
+    then (list_in_short (point_list file at closed)) λ s n. got (record { place = at; closed = closed; vertices = s.vertices; bounds = s.bounds }) n
 
 -- the list of a record: one that stands in it, or the one that was used last, which is read again where it stands
 abbrev pub outline : List ℕ → (at first : ℕ) → (closed present : Bool) → Option ℕ → Answer Outline

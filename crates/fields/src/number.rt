@@ -2,7 +2,7 @@
 
 ghost use Rattle.std.specs.Prelude.{◌≡◌, ◌≤◌, IfOk};
 ghost use Rattle.bounds.specs.Points.{reach};
-ghost use Rattle.fields.specs.Numbers.{inherited as inheritedValue, field, measure, layers, sides};
+ghost use Rattle.fields.specs.Numbers.{inherited as inherited_value, field, measure, layers, sides};
 
 use crate::variables::{LayerVariables, SideVariables};
 use bounds::REACH;
@@ -39,7 +39,7 @@ pub fn inherited<T: Copy>(
     first: usize,
     variable: Option<T>,
 ) -> Result<Read<T>, TokenFault>
-    ensures takes { result ≡ inheritedValue at first variable }
+    ensures takes { result ≡ inherited_value at first variable }
 {
     match variable {
         Some(value) => Ok(Read { value, next: at }),

@@ -1,6 +1,6 @@
 -- Worked examples.
 use Rattle.std.specs.Prelude.{◌≡◌, ℕ, suc, Bool, true, false, List, [], ◌∷◌, ◌++◌, replicate}
-use Rattle.std.specs.List.{AllByRecursion as All}
+use Rattle.std.specs.List.{AllByRecursion as Every}
 use Rattle.tokens.specs.declared.fault.FaultKind.TheVariants.{Cut, Version, Reserved, BadType, BadEnd, Checksum}
 use Rattle.tokens.specs.Answers.{Answer, got, fault}
 use Rattle.frames.specs.declared.end.End.{End}
@@ -57,4 +57,4 @@ table =
 
 -- every one of them holds
 abbrev pub ExamplesHold : Type 0
-ExamplesHold = All Holds table
+ExamplesHold = Every Holds table

@@ -2,7 +2,7 @@
 use Rattle.std.proofs.Common.{◌≡◌, ℕ, ◌+◌, ◌<◌, ◌≤◌, true, false, cond, ◌&&◌, ◌⊎◌, List, [], ◌∷◌, length, get_or, take, ℤ, pos, ◌+ℤ◌, Some, None, fold, sym, refl, ap, ◌∙◌, subst, inl, inr, arith}
 use lib.Signed.{lt_z}
 use Rattle.std.specs.Int.{int_min, int_max}
-use Rattle.std.specs.List.{AllByRecursion as All}
+use Rattle.std.specs.List.{AllByRecursion as Every}
 use Rattle.std.proofs.lemmas.List.{take_all}
 use Rattle.std.proofs.lemmas.Int.{ints, clamps}
 use Rattle.std.proofs.lemmas.List.Sums.{fold_more}
@@ -70,7 +70,7 @@ all_kept : (e : Extent) (ps : List Point) (q : Point) → Inside e q → Inside 
 all_kept e [] q i = i
 all_kept e (p ∷ ps) q i = all_kept (widened e p) ps q (kept e p q i)
 
-all_gained : (e : Extent) (ps : List Point) → All (Inside (fold widened e ps)) ps
+all_gained : (e : Extent) (ps : List Point) → Every (Inside (fold widened e ps)) ps
 all_gained e [] = tt
 all_gained e (p ∷ ps) = (all_kept (widened e p) ps p (gained e p), all_gained (widened e p) ps)
 

@@ -1,6 +1,6 @@
 -- The tests of items tell whether a file can give them.
 use Rattle.std.proofs.Common.{◌≡◌, ℕ, ◌+◌, ◌<◌, ◌≤◌, true, ◌&&◌, leb, List, length, get_or, drop, nat_abs, Decides, refl}
-use Rattle.std.specs.List.{AllByRecursion as All}
+use Rattle.std.specs.List.{AllByRecursion as Every}
 use Rattle.std.proofs.lemmas.List.{at_drop_more, at_drop_all}
 use Rattle.std.proofs.lemmas.Bool.{leb-true, le-leb}
 use Rattle.std.proofs.lemmas.Bool.Decides.{Decides-and, Decides-like}
@@ -35,7 +35,7 @@ is_printed : (low b : ℕ) → Decides (leb low b && leb b last_printable) (Prin
 is_printed low b =
     Decides-like (leb low b && leb b last_printable) (λ h. record { first = h.0; last = h.1 }) (λ h. (h.first, h.last)) (two low b b last_printable)
 
-are_printed : (low : ℕ) (bs : List ℕ) → Decides (printable low bs) (All (Printed low) bs)
+are_printed : (low : ℕ) (bs : List ℕ) → Decides (printable low bs) (Every (Printed low) bs)
 are_printed low bs = Decides-by_and (λ b. leb low b && leb b last_printable) (Printed low) (printable low) (is_printed low) refl (λ _ _. refl) bs
 
 is_named : (n : List ℕ) → Decides (named n) (Named n)

@@ -1,7 +1,7 @@
 -- The box of a figure.
 use Rattle.std.specs.Prelude.{◌≡◌, ℕ, cond, ◌&&◌, ◌⊎◌, List, [], ◌∷◌, pos, ◌≤ℤ◌, Some, None, fold, Option}
 use Rattle.std.specs.Int.{int_min, int_max}
-use Rattle.std.specs.List.{AllByRecursion as All}
+use Rattle.std.specs.List.{AllByRecursion as Every}
 use Rattle.bounds.specs.declared.point.Point.{Point}
 use Rattle.bounds.specs.Points.{reach, point, sum, within}
 use Rattle.items.specs.declared.extent.Extent.{Extent}
@@ -63,7 +63,7 @@ Any P (p ∷ ps) = P p ⊎ Any P ps
 
 -- all points are in the box, and each side of it has one
 pub record Exact (ps : List Point) (e : Extent) : Type 0 where
-  pub inside : All (Inside e) ps
+  pub inside : Every (Inside e) ps
   pub left : Any (λ p. p.x ≡ e.left) ps
   pub bottom : Any (λ p. p.y ≡ e.bottom) ps
   pub right : Any (λ p. p.x ≡ e.right) ps

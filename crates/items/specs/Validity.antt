@@ -1,6 +1,6 @@
 -- Which items a file can give.
 use Rattle.std.specs.Prelude.{ℕ, ◌+◌, ◌≤◌, Bool, true, ◌&&◌, List, length, ℤ, nat_le, unsigned_abs}
-use Rattle.std.specs.List.{AllByRecursion as All}
+use Rattle.std.specs.List.{AllByRecursion as Every}
 use Rattle.tokens.specs.declared.text.StringRule.TheVariants.{Name, Ascii}
 use Rattle.tokens.specs.Chains.{largest}
 use Rattle.tokens.specs.Texts.{space, first_visible, last_printable, obeys}
@@ -54,19 +54,19 @@ pub record Printed (low b : ℕ) : Type 0 where
 -- a name: visible characters, at least one
 pub record Named (n : List ℕ) : Type 0 where
   pub some : 1 ≤ length n
-  pub visible : All (Printed first_visible) n
+  pub visible : Every (Printed first_visible) n
   pub short : length n ≤ largest
 
 -- a text: printable characters, or none
 pub record Worded (s : List ℕ) : Type 0 where
-  pub printable : All (Printed space) s
+  pub printable : Every (Printed space) s
   pub short : length s ≤ largest
 
 -- at least so many vertices, all in reach
 pub record Drawn (few : ℕ) (vs : List Point) : Type 0 where
   pub enough : few ≤ length vs
   pub countable : length vs ≤ largest + 1
-  pub near : All (Near reach) vs
+  pub near : Every (Near reach) vs
 
 pub record ValidStart (u : ℕ) : Type 0 where
   pub some : 1 ≤ u

@@ -1,6 +1,6 @@
 -- Finding by a test that decides equality of keys.
 use Rattle.std.proofs.Common.{◌≡◌, ℕ, suc, ◌+◌, ◌<◌, Bool, false, List, [], ◌∷◌, length, Some, None, Decides, Option, sym, refl, ◌∙◌, subst, arith}
-use Rattle.std.specs.List.{HoldsAt, AllByRecursion as All}
+use Rattle.std.specs.List.{HoldsAt, AllByRecursion as Every}
 use Rattle.std.proofs.lemmas.Bool.{cond_both, cond-true, cond-false}
 use Rattle.std.proofs.lemmas.Bool.Decides.{not_from_Decides}
 use Rattle.keyed.specs.declared.table.Entry.{Entry}
@@ -12,7 +12,7 @@ module _ {K V : Type 0} (same : K → K → Bool) (decides : (a b : K) → Decid
   -- the same, counted from i
   abbrev FoundFrom : ℕ → List (Entry K V) → Option ℕ → Type 0
   FoundFrom i rows (Some k) = (j : ℕ) × (k ≡ i + j) × FirstWith key rows j
-  FoundFrom i rows None = All (λ row. row.key ≡ key → ⊥) rows
+  FoundFrom i rows None = Every (λ row. row.key ≡ key → ⊥) rows
 
   further : (i : ℕ) (row : Entry K V) (rows : List (Entry K V)) (o : Option ℕ) → (row.key ≡ key → ⊥) → FoundFrom (i + 1) rows o → FoundFrom i (row ∷ rows) o
   further i row rows (Some k) other f =

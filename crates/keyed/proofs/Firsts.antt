@@ -1,6 +1,6 @@
 -- Laws of first elements.
 use Rattle.std.proofs.Common.{◌≡◌, ℕ, zero, suc, ◌<◌, Bool, true, false, cond, not, ◌||◌, List, [], ◌∷◌, ◌++◌, length, get_or, Some, filter, sym, refl, ap, ◌∙◌, ⊎_elim, arith}
-use Rattle.std.specs.List.{AllByRecursion as All}
+use Rattle.std.specs.List.{AllByRecursion as Every}
 use Rattle.std.proofs.lemmas.List.Elements.{filter-append}
 use Rattle.std.proofs.ByRecursion.{All-get_or, All-from_get_or, All-push, all_kept_by, All-weaker, kept_by_passes}
 use Rattle.std.proofs.lemmas.List.{append-nil}
@@ -13,15 +13,15 @@ module _ {X : Type 0} where
   any_push p (x ∷ xs) y = elim (p x) as (λ t. (t || any p (xs ++ y ∷ [])) ≡ ((t || any p xs) || p y)) [ true ↦ refl | false ↦ any_push p xs y ]
 
   module _ (R : X → X → Type 0) where
-    pub each_two_push : (xs : List X) (y : X) → EachTwo R xs → All (λ x. R x y) xs → EachTwo R (xs ++ y ∷ [])
+    pub each_two_push : (xs : List X) (y : X) → EachTwo R xs → Every (λ x. R x y) xs → EachTwo R (xs ++ y ∷ [])
     each_two_push [] y e a = (tt, tt)
     each_two_push (x ∷ xs) y e a = (All-push (R x) xs y e.0 a.0, each_two_push xs y e.1 a.1)
 
-    all_front : (P : X → Type 0) (xs ys : List X) → All P (xs ++ ys) → All P xs
+    all_front : (P : X → Type 0) (xs ys : List X) → Every P (xs ++ ys) → Every P xs
     all_front P [] ys a = tt
     all_front P (x ∷ xs) ys a = (a.0, all_front P xs ys a.1)
 
-    all_last : (P : X → Type 0) (xs : List X) (y : X) → All P (xs ++ y ∷ []) → P y
+    all_last : (P : X → Type 0) (xs : List X) (y : X) → Every P (xs ++ y ∷ []) → P y
     all_last P [] y a = a.0
     all_last P (x ∷ xs) y a = all_last P xs y a.1
 
@@ -29,7 +29,7 @@ module _ {X : Type 0} where
     each_two_front [] ys e = tt
     each_two_front (x ∷ xs) ys e = (all_front (R x) xs ys e.0, each_two_front xs ys e.1)
 
-    pub each_two_last : (xs : List X) (y : X) → EachTwo R (xs ++ y ∷ []) → All (λ x. R x y) xs
+    pub each_two_last : (xs : List X) (y : X) → EachTwo R (xs ++ y ∷ []) → Every (λ x. R x y) xs
     each_two_last [] y e = tt
     each_two_last (x ∷ xs) y e = (all_last (R x) xs y e.0, each_two_last xs y e.1)
 
@@ -46,7 +46,7 @@ module _ {X : Type 0} where
         (All-from_get_or (R x) xs d (λ j h. f 0 (suc j) (omega arith) (omega arith)), at_each_two xs d (λ i j l h. f (suc i) (suc j) (omega arith) (omega arith)))
 
   module _ (like : X → X → Bool) where
-    pub all_firsts : (P : X → Type 0) (xs : List X) → All P xs → All P (firsts like xs)
+    pub all_firsts : (P : X → Type 0) (xs : List X) → Every P xs → Every P (firsts like xs)
     all_firsts P [] a = tt
     all_firsts P (x ∷ xs) a = (a.0, all_kept_by (λ y. not (like x y)) P (firsts like xs) (all_firsts P xs a.1))
 
@@ -65,7 +65,7 @@ module _ {X : Type 0} where
         ]
 
     -- where like elements are one, a test passes one of the firsts exactly when it passes one of all
-    any_others : (p : X → Bool) (x : X) (ys : List X) → All (λ y. like x y ≡ true → x ≡ y) ys → (p x || any p (filter (λ y. not (like x y)) ys)) ≡ (p x || any p ys)
+    any_others : (p : X → Bool) (x : X) (ys : List X) → Every (λ y. like x y ≡ true → x ≡ y) ys → (p x || any p (filter (λ y. not (like x y)) ys)) ≡ (p x || any p ys)
     any_others p x [] a = refl
     any_others p x (y ∷ ys) a = ⊎_elim
         (λ e. ap (λ t. p x || any p (cond (not t) (y ∷ filter (λ z. not (like x z)) ys) (filter (λ z. not (like x z)) ys))) e

@@ -1,6 +1,6 @@
 -- The elements of a list that come first of their like, in order.
 use Rattle.std.specs.Prelude.{Bool, false, cond, not, ◌||◌, List, [], ◌∷◌, Some, None, filter, Option}
-use Rattle.std.specs.List.{AllByRecursion as All}
+use Rattle.std.specs.List.{AllByRecursion as Every}
 
 module _ {X : Type 0} where
   abbrev pub any : (X → Bool) → List X → Bool
@@ -20,4 +20,4 @@ module _ {X : Type 0} where
   -- each two elements, the earlier first
   abbrev pub EachTwo : (X → X → Type 0) → List X → Type 0
   EachTwo R [] = Unit {0}
-  EachTwo R (x ∷ xs) = All (R x) xs × EachTwo R xs
+  EachTwo R (x ∷ xs) = Every (R x) xs × EachTwo R xs

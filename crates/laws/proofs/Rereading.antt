@@ -1,6 +1,6 @@
 -- The explicit form of items is a file of those items.
 use Rattle.std.proofs.Common.{◌≡◌, ℕ, ◌+◌, ◌%◌, ◌^◌, ◌≤◌, true, false, List, [], ◌∷◌, ◌++◌, length, drop, Some, None, fold, sum, sym, refl, ap, ◌∙◌, subst, ap₂, inl, inr, arith}
-use Rattle.std.specs.List.{between, AllByRecursion as All}
+use Rattle.std.specs.List.{between, AllByRecursion as Every}
 use Rattle.std.proofs.lemmas.List.{append-nil, append_assoc}
 use Rattle.tokens.proofs.Backs.{after}
 use Rattle.frames.specs.Laws.{end_bytes as end_fields, four_bytes, sum_before}
@@ -45,7 +45,7 @@ record Rest (file : List ℕ) (p : Position) (ts : List Thing) : Type 0 where
   pub ended : last.context.state ≡ state.Ended
   pub at_end : last.at ≡ length file
   pub items : (names : Naming) → items_in names file records ≡ ts
-  pub plain : All (λ r. Plain r.content) records
+  pub plain : Every (λ r. Plain r.content) records
 
 -- one record, and the rest
 goes : (file : List ℕ) (p : Position) (size : ℕ) (ts us : List Thing) (d : Draws file p size ts) → (p.context.state ≡ state.Ended → ⊥) → Rest file d.step.after us → Rest file p (ts ++ us)
@@ -168,7 +168,7 @@ module _ (file : List ℕ) where
       (end_trip s p (between_seat seat) (open_seat seat) w.late w.low (w.bytes ∙ ap (λ l. record_bytes s an_end ++ written (s + sum (record_bytes s an_end)) l) none) w.sums)
 
   -- what is left of the file is read as the items that are left
-  trip : (us : List Thing) {g : Stage} (s : ℕ) (p : Position) → Seat g p → Due s p us → All (λ t. valid t ≡ true) us → fold onward (Some g) us ≡ Some stage.Ended → Rest file p us
+  trip : (us : List Thing) {g : Stage} (s : ℕ) (p : Position) → Seat g p → Due s p us → Every (λ t. valid t ≡ true) us → fold onward (Some g) us ≡ Some stage.Ended → Rest file p us
   trip [] s p (top x) w v f = let z : ◌≡◌ {A = ℕ} 0 1 = cc in absurd (omega arith)
   trip [] s p (cell x) w v f = let z : ◌≡◌ {A = ℕ} 0 1 = cc in absurd (omega arith)
   trip (a_start u ∷ us) s p (top x) w v f = none_stays us stage.Ended f
@@ -197,7 +197,7 @@ module _ (file : List ℕ) where
 form_read : (ts : List Thing) → Drawable ts → (r : Rest (explicit_form ts) at_start ts) × run.Readable (explicit_form ts)
 form_read ts w = by ts w.valid ((whole ts).1 w.order) w.short
   where
-    by : (ts : List Thing) → All (λ t. valid t ≡ true) ts → order.stage_at ts ≡ Some stage.Ended → length (explicit_form ts) ≤ longest → (r : Rest (explicit_form ts) at_start ts) × run.Readable (explicit_form ts)
+    by : (ts : List Thing) → Every (λ t. valid t ≡ true) ts → order.stage_at ts ≡ Some stage.Ended → length (explicit_form ts) ≤ longest → (r : Rest (explicit_form ts) at_start ts) × run.Readable (explicit_form ts)
     by [] v f h = let z : ◌≡◌ {A = ℕ} 0 1 = cc in absurd (omega arith)
     by (a_start u ∷ us) v f h =
         let file : List ℕ = explicit_form (a_start u ∷ us) in
@@ -219,7 +219,7 @@ form_read ts w = by ts w.valid ((whole ts).1 w.order) w.short
     by (an_end ∷ us) v f h = none_stays us stage.Ended f
 
 -- records that have nothing to do with names
-plain_names : (file : List ℕ) (rs : List RecordAt) → All (λ r. Plain r.content) rs → names_of file rs ≡ []
+plain_names : (file : List ℕ) (rs : List RecordAt) → Every (λ r. Plain r.content) rs → names_of file rs ≡ []
 plain_names file [] p = refl
 plain_names file (r ∷ rs) p = ap₂ (λ a b. a ++ b) (one r.content p.0) (plain_names file rs p.1)
   where
@@ -234,22 +234,22 @@ plain_names file (r ∷ rs) p = ap₂ (λ a b. a ++ b) (one r.content p.0) (plai
     one (content.Element e) q = refl
 
 -- refer to none
-plain_known : (ns : List Seen) (rs : List RecordAt) → All (λ r. Plain r.content) rs → All (λ r. All (Known ns) (references r.place r.content)) rs
+plain_known : (ns : List Seen) (rs : List RecordAt) → Every (λ r. Plain r.content) rs → Every (λ r. Every (Known ns) (references r.place r.content)) rs
 plain_known ns [] p = tt
 plain_known ns (r ∷ rs) p = (one r.place r.content p.0, plain_known ns rs p.1)
   where
-    spelled : (place class : ℕ) (c : Reference) → Spelled c → All (Known ns) (refers_at place class c)
+    spelled : (place class : ℕ) (c : Reference) → Spelled c → Every (Known ns) (refers_at place class c)
     spelled place class (Given x) q = tt
     spelled place class (Number k) q = absurd q
 
-    drawn : (place : ℕ) (e : Element) → SpelledElement e → All (Known ns) (refers_in place e)
+    drawn : (place : ℕ) (e : Element) → SpelledElement e → Every (Known ns) (refers_in place e)
     drawn place (element.Placement e) q = spelled place cell_names e.cell q
     drawn place (element.Text e) q = spelled place text_strings e.text q
     drawn place (element.Rectangle e) q = tt
     drawn place (element.Polygon e) q = tt
     drawn place (element.Path e) q = tt
 
-    one : (place : ℕ) (c : Record) → Plain c → All (Known ns) (references place c)
+    one : (place : ℕ) (c : Record) → Plain c → Every (Known ns) (references place c)
     one place content.Pad q = tt
     one place (content.Start s) q = tt
     one place (content.End e) q = tt

@@ -1,6 +1,6 @@
 -- Whole files: which are allowed, and the items that they define.
 use Rattle.std.specs.Prelude.{◌≡◌, ℕ, cond, List, [], ◌∷◌, Some, None, Option, nat_lt}
-use Rattle.std.specs.List.{flat_map, AllByRecursion as All}
+use Rattle.std.specs.List.{flat_map, AllByRecursion as Every}
 use Rattle.fields.specs.declared.reference.Reference.{Reference}
 use Rattle.fields.specs.declared.reference.Reference.TheVariants.{Given, Number}
 use Rattle.elements.specs.declared.element.Element.{Element}
@@ -93,4 +93,4 @@ pub record Allowed (file : List ℕ) : Type 0 where
   pub records : List RecordAt
   pub whole : Whole file records
   pub agree : Agree (names_of file records)
-  pub known : All (λ r. All (Known (names_of file records)) (references r.place r.content)) records
+  pub known : Every (λ r. Every (Known (names_of file records)) (references r.place r.content)) records

@@ -1,6 +1,6 @@
 -- What is proved of explicit forms.
 use Rattle.std.specs.Prelude.{◌≡◌, ◌≤◌, true, List, [], length}
-use Rattle.std.specs.List.{AllByRecursion as All}
+use Rattle.std.specs.List.{AllByRecursion as Every}
 use Rattle.runs.specs.Laws.{records_of}
 use Rattle.runs.specs.Runs.{longest, run}
 use Rattle.items.specs.Sequences.{Whole}
@@ -11,7 +11,7 @@ use Rattle.laws.specs.Files.{names_of, items, Allowed}
 
 -- items that a file can give, in sequence from start to end, with an explicit form that is not too long
 pub record Drawable (ts : List Thing) : Type 0 where
-  pub valid : All (λ t. valid t ≡ true) ts
+  pub valid : Every (λ t. valid t ≡ true) ts
   pub order : Whole ts
   pub short : length (explicit_form ts) ≤ longest
 

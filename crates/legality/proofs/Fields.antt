@@ -15,12 +15,12 @@ use Rattle.tokens.proofs.Texts.{text_made}
 use Rattle.bounds.specs.declared.point.Point.{Point}
 use Rattle.bounds.specs.Points.{reach, spot_at, all_within, places}
 use Rattle.bounds.proofs.Fitting.{all_within_lem}
-use Rattle.point_lists.specs.Lists.{point_list, summarised as listInShort}
+use Rattle.point_lists.specs.Lists.{point_list, summarised as list_in_short}
 use Rattle.point_lists.specs.Laws.{Shaped}
 use Rattle.point_lists.proofs.Shapes.{list_made}
 use Rattle.repetitions.specs.declared.summary.Summary.{Summary}
 use Rattle.repetitions.specs.Laws.{Copied}
-use Rattle.repetitions.specs.Repetitions.{repetition, summarised as copiesInShort}
+use Rattle.repetitions.specs.Repetitions.{repetition, summarised as copies_in_short}
 use Rattle.repetitions.proofs.Mades.{repetition_made}
 use Rattle.fields.specs.declared.anchor.Anchor.{Anchor}
 use Rattle.fields.specs.declared.anchor.AnchorVariables.{AnchorVariables}
@@ -140,10 +140,10 @@ module _ (file : List ℕ) where
       gives_got _ _ (record { half = h; start = b.0; end = b.1 })))
 
   -- a repetition that was read, in short
-  short_legal : (place : ℕ) (x : Read Summary) → Ok x ≡ copiesInShort (repetition file place) → RepetitionAt file place × (x.value.copies ≡ length (points_or (repetition file place)))
+  short_legal : (place : ℕ) (x : Read Summary) → Ok x ≡ copies_in_short (repetition file place) → RepetitionAt file place × (x.value.copies ≡ length (points_or (repetition file place)))
   short_legal place x e = by (repetition file place) (repetition_made file place) e
     where
-      by : (r : Answer (List Point)) → Made file (suc place) r (λ ps n. Copied ps) → Ok x ≡ copiesInShort r → Copied (points_or r) × (x.value.copies ≡ length (points_or r))
+      by : (r : Answer (List Point)) → Made file (suc place) r (λ ps n. Copied ps) → Ok x ≡ copies_in_short r → Copied (points_or r) × (x.value.copies ≡ length (points_or r))
       by (Ok y) m g = ((m.on y refl).2, ap (λ (s : Summary). s.copies) (same_got g).0)
       by (Err d) m g = not_fault g
 
@@ -157,11 +157,11 @@ module _ (file : List ℕ) where
       (λ _. gives_then (unsigned file at) _ (λ kind _.
       gives_cond (eqb kind.value 0)
       (λ _. gives_then (inherited kind.next first v) _ (λ old _. again old.value old.next))
-      (λ _. gives_then (copiesInShort (repetition file at)) _ (λ s e. let l = short_legal at s e in gives_got _ _ (l, l.0)))))
+      (λ _. gives_then (copies_in_short (repetition file at)) _ (λ s e. let l = short_legal at s e in gives_got _ _ (l, l.0)))))
       (λ _. gives_got _ _ (tt, p))
     where
-      again : (old n : ℕ) → Gives (then (copiesInShort (repetition file old)) (λ s _. got (spread_by old s) n)) LegalSpread
-      again old n = gives_then (copiesInShort (repetition file old)) _ (λ s e. let l = short_legal old s e in gives_got _ _ (l, l.0))
+      again : (old n : ℕ) → Gives (then (copies_in_short (repetition file old)) (λ s _. got (spread_by old s) n)) LegalSpread
+      again old n = gives_then (copies_in_short (repetition file old)) _ (λ s e. let l = short_legal old s e in gives_got _ _ (l, l.0))
 
   -- a list that was read
   abbrev LegalOutline : (closed : Bool) → Outline → Type 0
@@ -170,7 +170,7 @@ module _ (file : List ℕ) where
   list_legal : (at : ℕ) (closed : Bool) → Gives (outline_at file at closed) (LegalOutline closed)
   list_legal at closed = by (point_list file at closed) refl (list_made file at closed)
     where
-      by : (r : Answer (List Point)) → r ≡ point_list file at closed → Made file (suc at) r (λ ps n. Shaped closed ps) → Gives (then (listInShort r) (λ s n. got (record { place = at; closed = closed; vertices = s.vertices; bounds = s.bounds }) n)) (LegalOutline closed)
+      by : (r : Answer (List Point)) → r ≡ point_list file at closed → Made file (suc at) r (λ ps n. Shaped closed ps) → Gives (then (list_in_short r) (λ s n. got (record { place = at; closed = closed; vertices = s.vertices; bounds = s.bounds }) n)) (LegalOutline closed)
       by (Ok y) e m =
           let p : y.value ≡ points_or (point_list file at closed) = ap points_or e in
           gives_got _ _ (refl, record { list = subst (Shaped closed) p (m.on y refl).2; count = ap length p })

@@ -1,6 +1,6 @@
 -- Each record of a run is legal.
 use Rattle.std.proofs.Common.{◌≡◌, ℕ, Bool, true, false, eqb, List, Some, None, Ok, Err, Option, Result, sym, refl, subst, arith}
-use Rattle.std.specs.List.{AllByRecursion as All}
+use Rattle.std.specs.List.{AllByRecursion as Every}
 use Rattle.tokens.specs.declared.fault.FaultKind.{FaultKind}
 use Rattle.tokens.specs.declared.text.StringRule.{StringRule}
 use Rattle.tokens.specs.declared.text.StringRule.TheVariants.{Name, Ascii}
@@ -146,16 +146,16 @@ module _ (file : List ℕ) where
       by_id (Err t) h = let z : ◌≡◌ {A = ℕ} 0 1 = cc in absurd (omega arith)
 
   -- so does a sequence of them
-  sequence_legal : {p q : Position} {rs : List RecordAt} → Sequence file p rs q → Kept file p.context.modals → All (λ r. LegalRecord file r.content) rs
+  sequence_legal : {p q : Position} {rs : List RecordAt} → Sequence file p rs q → Kept file p.context.modals → Every (λ r. LegalRecord file r.content) rs
   sequence_legal none k = tt
   sequence_legal {p = p} (next s d e l h rest) k = let b = step_legal p s k e in (b.0, sequence_legal rest b.1)
 
 -- the records of a file that is whole or at fault are legal
-told_legal : (file : List ℕ) (rs : List RecordAt) (f : Option Fault) → Tells file rs f → All (λ r. LegalRecord file r.content) rs
+told_legal : (file : List ℕ) (rs : List RecordAt) (f : Option Fault) → Tells file rs f → Every (λ r. LegalRecord file r.content) rs
 told_legal file rs None w = sequence_legal file w.sequence (fresh_kept file)
 told_legal file rs (Some f) w = by rs f w
   where
-    by : (rs : List RecordAt) (f : Fault) → Faulty file rs f → All (λ r. LegalRecord file r.content) rs
+    by : (rs : List RecordAt) (f : Fault) → Faulty file rs f → Every (λ r. LegalRecord file r.content) rs
     by rs f (long h) = tt
     by rs f (unmarked s n) = tt
     by rs f (stuck r t d e) = sequence_legal file t (fresh_kept file)

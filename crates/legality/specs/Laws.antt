@@ -1,6 +1,6 @@
 -- What is proved of the records of a run.
 use Rattle.std.specs.Prelude.{◌≡◌, ℕ, List}
-use Rattle.std.specs.List.{AllByRecursion as All}
+use Rattle.std.specs.List.{AllByRecursion as Every}
 use Rattle.tokens.specs.Answers.{Answer, got}
 use Rattle.fields.specs.declared.variables.Modals.{Modals}
 use Rattle.elements.specs.declared.element.Drawn.{Drawn}
@@ -20,4 +20,4 @@ ElementsLegal = DrawsLegally placement × DrawsLegally text × DrawsLegally rect
 
 -- each record of the run of a file is legal
 abbrev pub RunLegal : Type 0
-RunLegal = (file : List ℕ) → All (λ r. LegalRecord file r.content) (records_of (run file))
+RunLegal = (file : List ℕ) → Every (λ r. LegalRecord file r.content) (records_of (run file))

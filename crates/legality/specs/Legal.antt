@@ -1,6 +1,6 @@
 -- What a file can give: the limits of values, and places in reach.
 use Rattle.std.specs.Prelude.{◌≡◌, ℕ, ◌+◌, ◌≤◌, Bool, true, false, List, [], ◌∷◌, length, ℤ, Some, None, Option, unsigned_abs}
-use Rattle.std.specs.List.{between, AllByRecursion as All}
+use Rattle.std.specs.List.{between, AllByRecursion as Every}
 use Rattle.tokens.specs.declared.text.StringRule.{StringRule}
 use Rattle.tokens.specs.declared.text.StringRule.TheVariants.{Name, Ascii}
 use Rattle.tokens.specs.Chains.{largest}
@@ -88,7 +88,7 @@ LegalRepetition file None = Unit {0}
 -- an element at p with the vertices vs, as offsets: each vertex of each copy is in reach
 pub record Spread (file : List ℕ) (p : Point) (r : Option Repeated) (vs : List Point) : Type 0 where
   pub copies : LegalRepetition file r
-  pub near : All (Near reach) (places p (offsets_of file r) vs)
+  pub near : Every (Near reach) (places p (offsets_of file r) vs)
 
 -- the list of a polygon or a path stands at its place, and has so many vertices
 pub record Listed (file : List ℕ) (closed : Bool) (place vertices : ℕ) : Type 0 where

@@ -1,7 +1,7 @@
 -- The rows as the code holds them, and the records.
 use Rattle.std.proofs.Common.{◌≡◌, ℕ, ◌≤◌, true, false, cond, List, [], ◌∷◌, length, take, Some, None, Option, Result, sym, refl, ap, ◌∙◌, subst, ⊎_elim, arith, length-take}
 use Rattle.std.specs.Option.{option_map}
-use Rattle.std.specs.List.{AllByRecursion as All}
+use Rattle.std.specs.List.{AllByRecursion as Every}
 use Rattle.std.proofs.lemmas.List.{length-map}
 use Rattle.std.proofs.ByRecursion.{All-weaker}
 use Rattle.std.proofs.lemmas.Bool.{cond-true, cond-false, cases_Bool, and_parts, and_from, both_ways, eqb-true, eq-eqb}
@@ -84,7 +84,7 @@ module _ (c n : ℕ) where
   key_other a f p q = both_ways _ f (and_from _ _ (eq-eqb _ _ p) (eq-eqb _ _ q))
 
   -- it is the name of each record with the class and number
-  each_named : (xs : List Named) → EachTwo Agrees xs → All (λ a. a.class ≡ c → a.number ≡ n → name_of (first (has_key c n) xs) ≡ Some a.name) xs
+  each_named : (xs : List Named) → EachTwo Agrees xs → Every (λ a. a.class ≡ c → a.number ≡ n → name_of (first (has_key c n) xs) ≡ Some a.name) xs
   each_named [] e = tt
   each_named (x ∷ xs) e = ⊎_elim
       (λ t. let here = ap name_of (cond-true (has_key c n x) (Some x) (first (has_key c n) xs) t) in
@@ -96,7 +96,7 @@ module _ (c n : ℕ) where
       (cases_Bool (has_key c n x))
 
   -- there is none exactly where no record has them
-  none_named : (xs : List Named) → Exactly (name_of (first (has_key c n) xs) ≡ None) (All (λ a. a.class ≡ c → a.number ≡ n → ⊥) xs)
+  none_named : (xs : List Named) → Exactly (name_of (first (has_key c n) xs) ≡ None) (Every (λ a. a.class ≡ c → a.number ≡ n → ⊥) xs)
   none_named [] = (λ _. tt, λ _. refl)
   none_named (x ∷ xs) = ⊎_elim
       (λ t. ((λ e. absurd (some_none x.name (sym (ap name_of (cond-true (has_key c n x) (Some x) (first (has_key c n) xs) t)) ∙ e))), λ a. absurd (a.0 (key_parts x t).0 (key_parts x t).1)))

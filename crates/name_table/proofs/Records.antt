@@ -1,6 +1,6 @@
 -- Laws of the name records of a file.
 use Rattle.std.proofs.Common.{◌≡◌, ℕ, suc, ◌+◌, ◌<◌, ◌≤◌, Bool, true, false, cond, not, ◌&&◌, ◌||◌, eqb, List, [], ◌∷◌, ◌++◌, length, is_some, Some, None, Decides, Option, sym, refl, ap, ◌∙◌, subst, ⊎_elim, arith}
-use Rattle.std.specs.List.{AllByRecursion as All}
+use Rattle.std.specs.List.{AllByRecursion as Every}
 use Rattle.std.specs.Str.{bytes_eq}
 use Rattle.std.proofs.lemmas.List.{append-nil, append_assoc, length-append}
 use Rattle.std.proofs.ByRecursion.{All-push, All-weaker, Decides-by_and}
@@ -101,7 +101,7 @@ no_more true t = refl
 no_more false t = refl
 
 -- no element passes exactly where each has what a failed test means
-pub none_decides : {X : Type 0} (p : X → Bool) (P : X → Type 0) → ((x : X) → Decides (not (p x)) (P x)) → (xs : List X) → Decides (not (any p xs)) (All P xs)
+pub none_decides : {X : Type 0} (p : X → Bool) (P : X → Type 0) → ((x : X) → Decides (not (p x)) (P x)) → (xs : List X) → Decides (not (any p xs)) (Every P xs)
 none_decides p P each xs = Decides-by_and (λ x. not (p x)) P (λ l. not (any p l)) each refl (λ x l. no_more (p x) (any p l)) xs
 
 -- whether two names have one key
@@ -188,7 +188,7 @@ number_implicit n None e = refl
 number_implicit n (Some m) e = absurd (both_ways true e refl)
 
 -- the kinds of names are the kinds of their records
-pub kinds_of : (c : ℕ) (g : Bool) (b xs : List Seen) → All (λ a. a.class ≡ c → a.given ≡ g) (names_after b xs) → All (λ x. x.class ≡ c → is_some x.given ≡ g) xs
+pub kinds_of : (c : ℕ) (g : Bool) (b xs : List Seen) → Every (λ a. a.class ≡ c → a.given ≡ g) (names_after b xs) → Every (λ x. x.class ≡ c → is_some x.given ≡ g) xs
 kinds_of c g b [] h = tt
 kinds_of c g b (x ∷ xs) h = (h.0, kinds_of c g (b ++ x ∷ []) xs h.1)
 
@@ -203,7 +203,7 @@ module _ (c : ℕ) where
   counted x e i = and_from _ _ (eq-eqb _ _ e) (not_from_false _ i)
 
   -- their numbers are below their count
-  numbers_below : (b xs : List Seen) → All Counts xs → All (λ a. a.class ≡ c → a.number < count (implicit_in c) (b ++ xs)) (names_after b xs)
+  numbers_below : (b xs : List Seen) → Every Counts xs → Every (λ a. a.class ≡ c → a.number < count (implicit_in c) (b ++ xs)) (names_after b xs)
   numbers_below b [] h = tt
   numbers_below b (x ∷ xs) h = (
     λ e.
@@ -212,11 +212,11 @@ module _ (c : ℕ) where
         let s = count-append (implicit_in c) b (x ∷ xs) in
         let t : count (implicit_in c) (x ∷ xs) ≡ suc (count (implicit_in c) xs) = cond-true _ _ _ (counted x e i) in
         omega arith,
-    subst (λ l. All (λ a. a.class ≡ c → a.number < count (implicit_in c) l) (names_after (b ++ x ∷ []) xs)) (append_assoc b (x ∷ []) xs) (numbers_below (b ++ x ∷ []) xs h.1),
+    subst (λ l. Every (λ a. a.class ≡ c → a.number < count (implicit_in c) l) (names_after (b ++ x ∷ []) xs)) (append_assoc b (x ∷ []) xs) (numbers_below (b ++ x ∷ []) xs h.1),
   )
 
   -- one more of them is new
-  implicit_new : (rs : List Seen) (r : Seen) → r.class ≡ c → is_some r.given ≡ false → All Counts rs → New rs r
+  implicit_new : (rs : List Seen) (r : Seen) → r.class ≡ c → is_some r.given ≡ false → Every Counts rs → New rs r
   implicit_new rs r e i k =
       let n : (name_after rs r).number ≡ count (implicit_in c) rs = number_implicit _ r.given i ∙ ap (λ d. count (implicit_in d) rs) e in
       All-weaker (λ a. a.class ≡ c → a.number < count (implicit_in c) rs) (λ a. a.class ≡ r.class → a.number ≡ (name_after rs r).number → ⊥)
@@ -231,7 +231,7 @@ module _ (c : ℕ) where
       (cases_Bool (any (λ a. same_key a (name_after rs r)) (names_of rs)))
 
   -- each of them has a row of its own: one record more
-  own_row : (rs : List Seen) (r : Seen) → All Counts rs → Counts r → count (in_class c) (pairs rs) ≡ count (implicit_in c) rs → count (in_class c) (pairs (rs ++ r ∷ [])) ≡ count (implicit_in c) (rs ++ r ∷ [])
+  own_row : (rs : List Seen) (r : Seen) → Every Counts rs → Counts r → count (in_class c) (pairs rs) ≡ count (implicit_in c) rs → count (in_class c) (pairs (rs ++ r ∷ [])) ≡ count (implicit_in c) (rs ++ r ∷ [])
   own_row rs r all k e = ⊎_elim
       (λ t.
       let s = eqb-true r.class c t in
@@ -243,12 +243,12 @@ module _ (c : ℕ) where
       (cases_Bool (eqb r.class c))
 
   -- several records more
-  own_rows : (ys xs : List Seen) → All Counts xs → All Counts ys → count (in_class c) (pairs xs) ≡ count (implicit_in c) xs → count (in_class c) (pairs (xs ++ ys)) ≡ count (implicit_in c) (xs ++ ys)
+  own_rows : (ys xs : List Seen) → Every Counts xs → Every Counts ys → count (in_class c) (pairs xs) ≡ count (implicit_in c) xs → count (in_class c) (pairs (xs ++ ys)) ≡ count (implicit_in c) (xs ++ ys)
   own_rows [] xs h k e = subst (λ zs. count (in_class c) (pairs zs) ≡ count (implicit_in c) zs) (sym (append-nil xs)) e
   own_rows (y ∷ ys) xs h k e =
       subst (λ zs. count (in_class c) (pairs zs) ≡ count (implicit_in c) zs) (append_assoc xs (y ∷ []) ys)
       (own_rows ys (xs ++ y ∷ []) (All-push Counts xs y h k.0) k.1 (own_row xs y h k.0 e))
 
   -- the class has as many rows as records, where none of them gives a number
-  pub rows_counted : (rs : List Seen) → All Counts rs → count (in_class c) (pairs rs) ≡ count (implicit_in c) rs
+  pub rows_counted : (rs : List Seen) → Every Counts rs → count (in_class c) (pairs rs) ≡ count (implicit_in c) rs
   rows_counted rs h = own_rows rs [] tt h refl

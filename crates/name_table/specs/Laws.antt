@@ -1,6 +1,6 @@
 -- What adding and finding names promises, in terms of the records seen.
 use Rattle.std.specs.Prelude.{◌≡◌, ℕ, ◌≤◌, List, [], ◌∷◌, ◌++◌, Some, None, Ok, Err, Option, Result, ◌≢◌}
-use Rattle.std.specs.List.{AllByRecursion as All}
+use Rattle.std.specs.List.{AllByRecursion as Every}
 use Rattle.tokens.specs.declared.fault.FaultKind.{FaultKind}
 use Rattle.tokens.specs.declared.fault.FaultKind.TheVariants.{NameConflict, FewRows}
 use Rattle.tokens.specs.declared.fault.TokenFault.{TokenFault}
@@ -35,9 +35,9 @@ pub record Added (most : ℕ) (rs : List Seen) (r : Seen) (at : ℕ) (answer : R
 pub record Means (rs : List Seen) (c : ℕ) (n : ℕ) (name : Option (List ℕ)) : Type 0 where
   pub is : name ≡ named rs c n
   -- the name of each record with that class and number
-  pub each : All (λ a. a.class ≡ c → a.number ≡ n → name ≡ Some a.name) (names_of rs)
+  pub each : Every (λ a. a.class ≡ c → a.number ≡ n → name ≡ Some a.name) (names_of rs)
   -- none exactly where there is no such record
-  pub none : Exactly (name ≡ None) (All (λ a. a.class ≡ c → a.number ≢ n) (names_of rs))
+  pub none : Exactly (name ≡ None) (Every (λ a. a.class ≡ c → a.number ≢ n) (names_of rs))
 
 -- one record after another, up to the first that is refused
 abbrev pub runs : ℕ → List Named → List Seen → Result (List Named) FaultKind

@@ -1,6 +1,6 @@
 -- The name records of a file, in order, and what they mean.
 use Rattle.std.specs.Prelude.{◌≡◌, ℕ, suc, Bool, cond, not, ◌&&◌, List, [], ◌∷◌, ◌++◌, length, is_some, Some, None, Option, ◌==◌, ◌≢◌}
-use Rattle.std.specs.List.{AllByRecursion as All}
+use Rattle.std.specs.List.{AllByRecursion as Every}
 use Rattle.keyed.specs.Firsts.{first, firsts, EachTwo}
 
 -- a name record: its class, the number that it gives, or none, and its name
@@ -53,7 +53,7 @@ Agree rs = EachTwo Agrees (names_of rs)
 
 -- a record after them agrees with each of them
 abbrev pub AgreesWith : List Seen → Seen → Type 0
-AgreesWith rs r = All (λ a. Agrees a (name_after rs r)) (names_of rs)
+AgreesWith rs r = Every (λ a. Agrees a (name_after rs r)) (names_of rs)
 
 -- whether two names have one class and one number
 abbrev pub same_key : Named → Named → Bool
@@ -61,7 +61,7 @@ same_key a b = a.class == b.class && a.number == b.number
 
 -- no record before it has its class and number
 abbrev pub New : List Seen → Seen → Type 0
-New rs r = All (λ a. a.class ≡ r.class → a.number ≢ (name_after rs r).number) (names_of rs)
+New rs r = Every (λ a. a.class ≡ r.class → a.number ≢ (name_after rs r).number) (names_of rs)
 
 -- the pairs of class and number with their names, in order of first coming
 abbrev pub pairs : List Seen → List Named

@@ -1,6 +1,6 @@
 -- A list of type 4 that was written from vertex to vertex is read again.
 use Rattle.std.proofs.Common.{◌≡◌, ℕ, ◌+◌, ◌≤◌, Bool, true, false, List, [], ◌∷◌, ◌++◌, map, length, ℤ, pos, ◌+ℤ◌, ◌-ℤ◌, refl, ap, ◌∙◌, ap₂, arith}
-use Rattle.std.specs.List.{AllByRecursion as All}
+use Rattle.std.specs.List.{AllByRecursion as Every}
 use Rattle.std.proofs.lemmas.List.{append-nil}
 use Rattle.std.proofs.lemmas.Int.{ints}
 use Rattle.std.proofs.lemmas.Bool.{cond-true, le-leb}
@@ -62,7 +62,7 @@ step_back file at first p q w e hf hp hq =
     back_last _ (back_last _ (g_delta_back file at ((gap p q).x, (gap p q).y) (gap_fits p q hp hq)) refl)
     (cond-true (within far_reach (moved General w (gap p q)).at) _ _ inside)
 
-walks_back : (file : List ℕ) (first : Point) → Near reach first → (qs : List Point) (at : ℕ) (w : Walk) (p : Point) → w.at ≡ gap first p → Near reach p → All (Near reach) qs → Back file at (delta_bytes p qs) (unrolled (advanced General file) (length qs) at w) (walks w p qs)
+walks_back : (file : List ℕ) (first : Point) → Near reach first → (qs : List Point) (at : ℕ) (w : Walk) (p : Point) → w.at ≡ gap first p → Near reach p → Every (Near reach) qs → Back file at (delta_bytes p qs) (unrolled (advanced General file) (length qs) at w) (walks w p qs)
 unfolding unrolled walks
 walks_back file first hf [] at w p e h k = back_none
 walks_back file first hf (q ∷ qs) at w p e h k =

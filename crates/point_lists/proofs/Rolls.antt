@@ -1,6 +1,6 @@
 -- Loops that read one thing after the other.
 use Rattle.std.proofs.Common.{◌≡◌, ℕ, zero, suc, ◌+◌, ◌-◌, ◌<◌, ◌≤◌, List, [], ◌∷◌, length, Ok, Err, sym, refl, ap, arith}
-use Rattle.std.specs.List.{AllByRecursion as All}
+use Rattle.std.specs.List.{AllByRecursion as Every}
 use Rattle.tokens.specs.declared.fault.Read.{Read}
 use Rattle.tokens.specs.declared.fault.TokenFault.{TokenFault}
 use Rattle.tokens.specs.Answers.{Answer, got, then}
@@ -38,7 +38,7 @@ Follow P s (t ∷ ts) = P s t × Follow P t ts
 -- what so many steps make, where each goes on, keeps I and does P
 pub record Rolled {S : Type 0} (I : S → Type 0) (P : S → S → Type 0) (n : ℕ) (s : S) (ts : List S) : Type 0 where
   pub many : length ts ≡ n
-  pub kept : All I ts
+  pub kept : Every I ts
   pub each : Follow P s ts
 
 module _ {S : Type 0} (file : List ℕ) (f : ℕ → S → Answer S) (I : S → Type 0) (P : S → S → Type 0) (step : (at : ℕ) (s : S) → I s → Made file (suc at) (f at s) (λ t n. I t × P s t)) where

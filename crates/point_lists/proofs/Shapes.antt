@@ -1,6 +1,6 @@
 -- What holds of the vertices of a list.
 use Rattle.std.proofs.Common.{◌≡◌, ℕ, suc, ◌≤◌, Bool, true, false, List, [], ◌∷◌, ◌++◌, map, length, refl, subst, arith, length-append}
-use Rattle.std.specs.List.{AllByRecursion as All}
+use Rattle.std.specs.List.{AllByRecursion as Every}
 use Rattle.std.proofs.ByRecursion.{All-append}
 use Rattle.tokens.specs.Chains.{largest}
 use Rattle.tokens.specs.Readers.{Made}
@@ -24,17 +24,17 @@ origin_near : Near far_reach origin
 origin_near = record { x = omega arith; y = omega arith }
 
 -- the vertices of a steady walk are near
-ats_near : (ws : List Walk) → All Steady ws → All (Near far_reach) (map (λ w. w.at) ws)
+ats_near : (ws : List Walk) → Every Steady ws → Every (Near far_reach) (map (λ w. w.at) ws)
 ats_near [] a = tt
 ats_near (w ∷ ws) a = (a.0.at, ats_near ws a.1)
 
 -- so is the last of near points
-last_near : (p : Point) (ps : List Point) → Near far_reach p → All (Near far_reach) ps → Near far_reach (last_of p ps)
+last_near : (p : Point) (ps : List Point) → Near far_reach p → Every (Near far_reach) ps → Near far_reach (last_of p ps)
 last_near p [] h a = h
 last_near p (q ∷ qs) h a = last_near q qs a.0 a.1
 
 -- and the vertex that is implied by a near one
-implied_near : (k : ListKind) (closed : Bool) (p : Point) → Near far_reach p → All (Near far_reach) (implied k closed p)
+implied_near : (k : ListKind) (closed : Bool) (p : Point) → Near far_reach p → Every (Near far_reach) (implied k closed p)
 implied_near k false p h = tt
 implied_near AcrossFirst true p h = (record { x = omega arith; y = h.y }, tt)
 implied_near UpFirst true p h = (record { x = h.x; y = omega arith }, tt)
@@ -59,7 +59,7 @@ many k closed n e c = good_many k n (subst (λ b. good_count k b n ≡ true) c e
 shaped : (k : ListKind) (closed : Bool) (n : ℕ) (ws : List Walk) → n ≤ largest → good_count k closed n ≡ true → Rolled Steady Stepped n (start k) ws → Shaped closed (vertices k closed (vectors ws))
 shaped k closed n ws few good r =
     let ps = path origin (vectors ws) in
-    let near : All (Near far_reach) ps = subst (All (Near far_reach)) (path_from k n ws r) (ats_near ws r.kept) in
+    let near : Every (Near far_reach) ps = subst (Every (Near far_reach)) (path_from k n ws r) (ats_near ws r.kept) in
     let more = implied k closed (last_of origin ps) in
     let long = path-length k n ws r in
     record {

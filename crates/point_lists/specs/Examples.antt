@@ -1,6 +1,6 @@
 -- Worked examples, each read from the first byte of a file.
 use Rattle.std.specs.Prelude.{◌≡◌, ℕ, true, false, List, [], ◌∷◌, pos, negsuc}
-use Rattle.std.specs.List.{AllByRecursion as All}
+use Rattle.std.specs.List.{AllByRecursion as Every}
 use Rattle.tokens.specs.declared.fault.FaultKind.TheVariants.{Cut, BadType, BadList}
 use Rattle.tokens.specs.Answers.{Answer, got, fault}
 use Rattle.bounds.specs.declared.point.Point.{Point}
@@ -34,4 +34,4 @@ table =
 
 -- every one of them holds
 abbrev pub ExamplesHold : Type 0
-ExamplesHold = All Holds table
+ExamplesHold = Every Holds table

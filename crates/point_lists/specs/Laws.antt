@@ -1,6 +1,6 @@
 -- What is proved of point lists.
 use Rattle.std.specs.Prelude.{◌≡◌, ℕ, suc, ◌+◌, ◌≤◌, Bool, true, List, [], ◌∷◌, ◌++◌, map, length, ◌-ℤ◌}
-use Rattle.std.specs.List.{AllByRecursion as All}
+use Rattle.std.specs.List.{AllByRecursion as Every}
 use Rattle.tokens.specs.Chains.{largest}
 use Rattle.tokens.specs.Encodings.{shortest, g_delta_bytes}
 use Rattle.tokens.specs.Readers.{Made, Back, Local}
@@ -11,7 +11,7 @@ use Rattle.point_lists.specs.Lists.{point_list}
 -- the vertices of a list: the first is the origin, all are in far reach of it, and a polygon has three at least
 pub record Shaped (closed : Bool) (ps : List Point) : Type 0 where
   pub rooted : Rooted ps
-  pub near : All (Near far_reach) ps
+  pub near : Every (Near far_reach) ps
   pub few : length ps ≤ largest + 2
   pub enough : closed ≡ true → 3 ≤ length ps
 
@@ -40,5 +40,5 @@ list_bytes p qs = 4 ∷ (shortest (length qs) ++ delta_bytes p qs)
 abbrev pub ListBack : Type 0
 ListBack =
     (file : List ℕ) (at : ℕ) (closed : Bool) (p : Point) (qs : List Point) →
-    Near reach p → All (Near reach) qs → length qs ≤ largest → (closed ≡ true → 2 ≤ length qs) →
+    Near reach p → Every (Near reach) qs → length qs ≤ largest → (closed ≡ true → 2 ≤ length qs) →
     Back file at (list_bytes p qs) (point_list file at closed) (map (gap p) (p ∷ qs))

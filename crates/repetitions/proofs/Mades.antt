@@ -1,6 +1,6 @@
 -- What a repetition makes: progress in the file, and what holds of its plan and its copies.
 use Rattle.std.proofs.Common.{◌≡◌, ℕ, zero, suc, ◌+◌, ◌*◌, ◌<◌, ◌≤◌, Bool, true, false, eqb, leb, List, [], ◌∷◌, map, length, pos, IfOk, refl, ap, mul_comm, mul-one, le-mul_of_pos_right, arith}
-use Rattle.std.specs.List.{AllByRecursion as All}
+use Rattle.std.specs.List.{AllByRecursion as Every}
 use Rattle.std.proofs.lemmas.Int.{ints}
 use Rattle.std.proofs.lemmas.Bool.{leb-true}
 use Rattle.tokens.specs.Answers.{Answer}
@@ -110,7 +110,7 @@ unfolding plan
 plan_made file at = made_then _ (unsigned_made file at) (λ kind n _ _ _. plan_from_made file at kind n)
 
 -- as many things as were asked for
-pub series_made : {A : Type 0} (r : List ℕ → ℕ → Answer A) (P : A → Type 0) (file : List ℕ) → ((at : ℕ) → Made file (suc at) (r file at) (λ v n. P v)) → (k at : ℕ) → at ≤ length file → Made file at (series r k file at) (λ vs n. (length vs ≡ k) × All P vs)
+pub series_made : {A : Type 0} (r : List ℕ → ℕ → Answer A) (P : A → Type 0) (file : List ℕ) → ((at : ℕ) → Made file (suc at) (r file at) (λ v n. P v)) → (k at : ℕ) → at ≤ length file → Made file at (series r k file at) (λ vs n. (length vs ≡ k) × Every P vs)
 unfolding series
 series_made r P file m zero at h = made_got [] at (omega arith) h (refl, tt)
 series_made r P file m (suc k) at h =

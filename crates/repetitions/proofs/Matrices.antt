@@ -1,7 +1,7 @@
 -- The copies of a matrix, one by one.
 use Rattle.std.proofs.Common.{◌≡◌, ℕ, zero, suc, ◌+◌, ◌*◌, ◌<◌, ◌≤◌, List, [], ◌∷◌, ◌++◌, length, pos, ◌+ℤ◌, ◌*ℤ◌, sym, ap, subst, ⊎_elim, mul-zero, mul-suc, arith, length-append}
 use lib.IntN.{zero-*ℤ}
-use Rattle.std.specs.List.{AllByRecursion as All}
+use Rattle.std.specs.List.{AllByRecursion as Every}
 use Rattle.std.proofs.lemmas.List.FromFn.{length-map-range_with_len}
 use Rattle.std.proofs.ByRecursion.{All-append}
 use Rattle.std.proofs.lemmas.Bool.{cases_lt}
@@ -10,7 +10,7 @@ use Rattle.bounds.specs.Points.{origin, Rooted}
 use Rattle.repetitions.specs.Offsets.{copy_at, row_from, rows_from, matrix}
 
 -- the two parts of a list
-all_parts : (P : Point → Type 0) (xs ys : List Point) → All P (xs ++ ys) → All P xs × All P ys
+all_parts : (P : Point → Type 0) (xs ys : List Point) → Every P (xs ++ ys) → Every P xs × Every P ys
 all_parts P [] ys a = (tt, a)
 all_parts P (x ∷ xs) ys a = let r = all_parts P xs ys a.1 in ((a.0, r.0), r.1)
 
@@ -42,12 +42,12 @@ module _ (across up : Point) where
 
   module _ (P : Point → Type 0) where
     -- what holds at each column and row holds of each copy
-    row_all : (j i n : ℕ) → ((k : ℕ) → k < i + n → P (copy_at across up k j)) → All P (row_from across up j i n)
+    row_all : (j i n : ℕ) → ((k : ℕ) → k < i + n → P (copy_at across up k j)) → Every P (row_from across up j i n)
     unfolding row_from
     row_all j i zero h = tt
     row_all j i (suc n) h = (h i (omega arith), row_all j (i + 1) n (λ k l. h k (omega arith)))
 
-    pub rows_all : (columns j m : ℕ) → ((i k : ℕ) → i < columns → k < j + m → P (copy_at across up i k)) → All P (rows_from columns across up j m)
+    pub rows_all : (columns j m : ℕ) → ((i k : ℕ) → i < columns → k < j + m → P (copy_at across up i k)) → Every P (rows_from columns across up j m)
     unfolding rows_from
     rows_all columns j zero h = tt
     rows_all columns j (suc m) h =
@@ -56,7 +56,7 @@ module _ (across up : Point) where
         (rows_all columns (j + 1) m (λ i k l q. h i k l (omega arith)))
 
     -- and the other way
-    row_at : (j i n k : ℕ) → All P (row_from across up j i n) → i ≤ k → k < i + n → P (copy_at across up k j)
+    row_at : (j i n k : ℕ) → Every P (row_from across up j i n) → i ≤ k → k < i + n → P (copy_at across up k j)
     unfolding row_from
     row_at j i zero k a l q = absurd (omega arith)
     row_at j i (suc n) k a l q =
@@ -64,7 +64,7 @@ module _ (across up : Point) where
         (λ (b : k ≤ i). let e : i ≡ k = omega arith in subst (λ x. P (copy_at across up x j)) e a.0)
         (cases_lt i k)
 
-    pub rows_at : (columns j m i k : ℕ) → All P (rows_from columns across up j m) → i < columns → j ≤ k → k < j + m → P (copy_at across up i k)
+    pub rows_at : (columns j m i k : ℕ) → Every P (rows_from columns across up j m) → i < columns → j ≤ k → k < j + m → P (copy_at across up i k)
     unfolding rows_from
     rows_at columns j zero i k a l q r = absurd (omega arith)
     rows_at columns j (suc m) i k a l q r =

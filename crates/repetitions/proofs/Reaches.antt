@@ -1,7 +1,7 @@
 -- Whether all copies are in reach, by their box or one by one.
 use Rattle.std.proofs.Common.{◌≡◌, ℕ, suc, ◌+◌, ◌*◌, Bool, true, false, cond, ◌&&◌, List, [], ◌∷◌, map, length, pos, neg_ℤ, Some, None, fold, Option, refl, ap, ◌∙◌, arith}
 use lib.Signed.{≤ℤ_refl}
-use Rattle.std.specs.List.{AllByRecursion as All}
+use Rattle.std.specs.List.{AllByRecursion as Every}
 use Rattle.std.proofs.ByRecursion.{All-weaker}
 use Rattle.std.proofs.lemmas.List.{length-map}
 use Rattle.std.proofs.lemmas.Int.{ints}
@@ -59,17 +59,17 @@ hold_modest n b o h =
     }
 
 -- the box of points that are near
-near_hold : (n : ℕ) (ps : List Point) → Rooted ps → All (Near n) ps → Holds (square n) (bounds_of ps)
+near_hold : (n : ℕ) (ps : List Point) → Rooted ps → Every (Near n) ps → Holds (square n) (bounds_of ps)
 near_hold n ps r a = bounds_in (square n) ps r (All-weaker (Near n) (Inside (square n)) (near_inside n) ps a)
 
-pub near_modest : (n : ℕ) (ps : List Point) → Rooted ps → All (Near n) ps → Modest n (bounds_of ps)
+pub near_modest : (n : ℕ) (ps : List Point) → Rooted ps → Every (Near n) ps → Modest n (bounds_of ps)
 near_modest n ps r a = hold_modest n (bounds_of ps) (bounds_origin ps) (near_hold n ps r a)
 
 -- the test of the box is that of the points
 pub reach-told : (n : ℕ) (ps : List Point) → Rooted ps → (within n (low_of (bounds_of ps)) && within n (high_of (bounds_of ps))) ≡ all_within n ps
 reach-told n ps r =
     let b = bounds_of ps in
-    same_from_decides {P = All (Near n) ps} (within n (low_of b) && within n (high_of b)) (all_within n ps) (
+    same_from_decides {P = Every (Near n) ps} (within n (low_of b) && within n (high_of b)) (all_within n ps) (
       (λ e.
           let q = and_parts (within n (low_of b)) (within n (high_of b)) e in
           All-weaker (Inside (square n)) (Near n) (inside_near n) ps

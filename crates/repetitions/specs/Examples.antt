@@ -1,6 +1,6 @@
 -- Worked examples, each read from the first byte of a file.
 use Rattle.std.specs.Prelude.{◌≡◌, ℕ, List, [], ◌∷◌, pos, negsuc}
-use Rattle.std.specs.List.{AllByRecursion as All}
+use Rattle.std.specs.List.{AllByRecursion as Every}
 use Rattle.tokens.specs.declared.fault.FaultKind.TheVariants.{Cut, BadType, Reach, Copies}
 use Rattle.tokens.specs.Answers.{Answer, got, fault}
 use Rattle.bounds.specs.declared.point.Point.{Point}
@@ -41,4 +41,4 @@ table =
 
 -- every one of them holds
 abbrev pub ExamplesHold : Type 0
-ExamplesHold = All (λ c. repetition c.bytes 0 ≡ c.answer) table
+ExamplesHold = Every (λ c. repetition c.bytes 0 ≡ c.answer) table

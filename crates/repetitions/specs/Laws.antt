@@ -1,6 +1,6 @@
 -- What is proved of repetitions, in the subject's words.
 use Rattle.std.specs.Prelude.{◌≡◌, ℕ, suc, ◌+◌, ◌*◌, ◌<◌, ◌≤◌, List, length, take, fold, slice_index_or}
-use Rattle.std.specs.List.{AllByRecursion as All}
+use Rattle.std.specs.List.{AllByRecursion as Every}
 use Rattle.tokens.specs.Readers.{Made, Local}
 use Rattle.bounds.specs.declared.point.Point.{Point}
 use Rattle.bounds.specs.Points.{far_reach, origin, sum, Near, Rooted}
@@ -11,7 +11,7 @@ use Rattle.repetitions.specs.Repetitions.{repetition}
 -- the copies of a repetition: the first is at the origin, all are in reach, and they are few
 pub record Copied (ps : List Point) : Type 0 where
   pub begins : Rooted ps
-  pub near : All (Near far_reach) ps
+  pub near : Every (Near far_reach) ps
   pub some : 1 ≤ length ps
   pub few : length ps ≤ most_copies
 

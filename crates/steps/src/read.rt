@@ -1,7 +1,7 @@
 //! One record, whose fields stand behind its ID.
 
 ghost use Rattle.std.specs.Prelude.{◌≡◌};
-ghost use Rattle.steps.specs.Contents.{begun, closed as closedBy, cell_named, text_named, cell_opened, drawn_in, performed};
+ghost use Rattle.steps.specs.Contents.{begun, closed as closed_by, cell_named, text_named, cell_opened, drawn_in, performed};
 
 use crate::dispatch::Action;
 use crate::state::{Context, FileState, Found, Record, keep, reset, set_mode};
@@ -24,7 +24,7 @@ fn begin(file: &[u8], at: usize) -> Result<Read<Found>, TokenFault>
 
 // END: nothing may follow.
 fn close(file: &[u8], at: usize, first: usize, c: Context) -> Result<Read<Found>, TokenFault>
-    ensures { result ≡ closedBy file.now at first c }
+    ensures { result ≡ closed_by file.now at first c }
 {
     let end = read_end(file, at, first, c.late)?;
     Ok(Read {

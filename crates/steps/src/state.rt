@@ -1,7 +1,7 @@
 //! What a record holds, and what is known between two records.
 
 ghost use Rattle.std.specs.Prelude.{◌≡◌};
-ghost use Rattle.steps.specs.States.{kept, reset as resetTo, moded};
+ghost use Rattle.steps.specs.States.{kept, reset as reset_to, moded};
 
 use elements::Element;
 use fields::{Modals, Reference};
@@ -86,7 +86,7 @@ pub fn keep(c: Context, content: Record) -> Found
 
 /// A record that resets the modal variables, and the state after it.
 pub fn reset(state: FileState, late: bool, content: Record) -> Found
-    ensures resets { result ≡ resetTo state late content }
+    ensures resets { result ≡ reset_to state late content }
 {
     Found {
         content,

@@ -1,6 +1,6 @@
 -- Lemmas on signed integers and displacements.
 use Rattle.std.proofs.Common.{◌≡◌, ℕ, zero, suc, ◌/◌, ◌%◌, ◌<◌, ◌≤◌, List, [], ◌∷◌, length, get_or, ℤ, pos, neg_ℤ, nat_abs, IfOk, refl, arith}
-use Rattle.std.specs.List.{AllByRecursion as All}
+use Rattle.std.specs.List.{AllByRecursion as Every}
 use Rattle.std.proofs.lemmas.Bool.{cond_both}
 use Rattle.tokens.specs.Answers.{Answer, got, then}
 use Rattle.tokens.specs.Chains.{largest, unsigned}
@@ -20,7 +20,7 @@ pub size_signed : (v s : ℕ) → v / 2 ≤ s → nat_abs (signed_of v) ≤ s
 size_signed v s h = cond_both (even v) (pos (v / 2)) (neg_ℤ (pos (v / 2))) (λ z. nat_abs z ≤ s) (λ e. h) (λ e. omega (arith, size_neg (v / 2)))
 
 -- what holds of each displacement of a list holds of the one at d
-sizes_at : (s : ℕ) (ps : List (ℤ × ℤ)) (d : ℕ) → All (Sizes s) ps → Sizes s (get_or ps d (pos 0, pos 0))
+sizes_at : (s : ℕ) (ps : List (ℤ × ℤ)) (d : ℕ) → Every (Sizes s) ps → Sizes s (get_or ps d (pos 0, pos 0))
 sizes_at s [] d h = (omega arith, omega arith)
 sizes_at s (p ∷ ps) zero h = h.0
 sizes_at s (p ∷ ps) (suc d) h = sizes_at s ps d h.1

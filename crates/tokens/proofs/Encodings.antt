@@ -1,7 +1,7 @@
 -- What is written is read again, and is as short as can be.
 use Rattle.std.proofs.Common.{◌≡◌, ℕ, zero, suc, ◌+◌, ◌-◌, ◌*◌, ◌/◌, ◌%◌, ◌^◌, ◌<◌, ◌≤◌, true, false, ltb, leb, List, [], ◌∷◌, length, get_or, take, drop, ℤ, pos, negsuc, nat_abs, Ok, sym, refl, ap, ◌∙◌, add-zero, pow-suc, div-one, arith}
 use native.Mathlib.Nat.{mod-one}
-use Rattle.std.specs.List.{AllByRecursion as All}
+use Rattle.std.specs.List.{AllByRecursion as Every}
 use Rattle.std.proofs.lemmas.Nat.{div_below}
 use Rattle.std.proofs.lemmas.List.{take_at, get_or-drop}
 use Rattle.std.proofs.lemmas.Bool.{cond-true, cond-false, cond_both, lt-ltb, le-leb, ltb-true, ltb-false, and_from, eq-eqb}
@@ -66,9 +66,9 @@ holding (suc k) zero n h = by_shortest (λ l. length l ≤ 1) k n (λ e. omega a
 holding (suc k) (suc j) n h = by_shortest (λ l. length l ≤ suc (suc j)) k n (λ e. omega arith) (λ e. omega (arith, holding k j (n / radix) (less j n h)))
 
 -- each is a byte
-bytes_in : (k n : ℕ) → n < radix ^ suc k → All (λ b. b < byte_values) (shortest_in k n)
+bytes_in : (k n : ℕ) → n < radix ^ suc k → Every (λ b. b < byte_values) (shortest_in k n)
 bytes_in zero n h = (omega arith, tt)
-bytes_in (suc k) n h = by_shortest (All (λ b. b < byte_values)) k n (λ e. (omega arith, tt)) (λ e. (omega arith, bytes_in k (n / radix) (less k n h)))
+bytes_in (suc k) n h = by_shortest (Every (λ b. b < byte_values)) k n (λ e. (omega arith, tt)) (λ e. (omega arith, bytes_in k (n / radix) (less k n h)))
 
 -- a chain, and the shortest
 pub shortest_is_chain : ShortestIsChain

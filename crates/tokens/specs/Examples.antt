@@ -1,6 +1,6 @@
 -- Worked examples, each read from the first byte of a file.
 use Rattle.std.specs.Prelude.{◌≡◌, ℕ, List, [], ◌∷◌, ℤ, pos, negsuc}
-use Rattle.std.specs.List.{AllByRecursion as All}
+use Rattle.std.specs.List.{AllByRecursion as Every}
 use Rattle.tokens.specs.declared.fault.FaultKind.TheVariants.{Cut, Wide, BadString, BadUnit}
 use Rattle.tokens.specs.declared.text.StringRule.TheVariants.{Name, Ascii}
 use Rattle.tokens.specs.declared.text.StringRule.{StringRule}
@@ -55,4 +55,4 @@ table =
 
 -- every one of them holds
 abbrev pub ExamplesHold : Type 0
-ExamplesHold = All Holds table
+ExamplesHold = Every Holds table

@@ -1,6 +1,6 @@
 -- What is proved of the definitions, in the subject's words.
 use Rattle.std.specs.Prelude.{◌≡◌, ℕ, suc, ◌+◌, ◌-◌, ◌^◌, ◌<◌, ◌≤◌, ◌⊎◌, List, [], ◌∷◌, length, take, drop, ℤ, unsigned_abs}
-use Rattle.std.specs.List.{between, AllByRecursion as All}
+use Rattle.std.specs.List.{between, AllByRecursion as Every}
 use Rattle.tokens.specs.declared.fault.FaultKind.TheVariants.{Cut, Wide}
 use Rattle.tokens.specs.declared.fault.FaultKind.{FaultKind}
 use Rattle.tokens.specs.declared.text.StringRule.{StringRule}
@@ -31,7 +31,7 @@ pub record ChainAt (file : List ℕ) (at v n : ℕ) : Type 0 where
 
 -- each of the bytes says that another one follows
 abbrev pub Open : List ℕ → Type 0
-Open bs = All (λ b. radix ≤ b) bs
+Open bs = Every (λ b. radix ≤ b) bs
 
 -- an integer is read only where a chain for it stands and it is not too large
 abbrev pub ReadsChains : Type 0
@@ -134,4 +134,4 @@ ShortestSizes = (n : ℕ) → (1 ≤ length (shortest n)) × (length (shortest n
 
 -- and each of them is a byte
 abbrev pub ShortestBytes : Type 0
-ShortestBytes = (n : ℕ) → n < 2 ^ 64 → All (λ b. b < byte_values) (shortest n)
+ShortestBytes = (n : ℕ) → n < 2 ^ 64 → Every (λ b. b < byte_values) (shortest n)
