@@ -14,7 +14,6 @@ show() { # title, then lines on standard input
 }
 src() { git grep -nE "$1" "$commit" -- 'crates/*/src/*.rt' 'crates/*/src/**/*.rt' | sort -u || true; }
 words() { git grep -hoE "$1" "$commit" -- 'crates/*/src/*.rt' 'crates/*/src/**/*.rt' || true; }
-proofs() { git grep -hoE "$1" "$commit" -- 'crates/*/proofs/*.antt' 'crates/*/proofs/**/*.antt' || true; }
 
 src '^ +([A-Z][A-Z_0-9]+|[0-9]+) =>|[!=]= [A-Z][A-Z_0-9]+\b' | show "1a numbers that say a kind, matched or compared"
 src '^\s+(pub )?[a-z_]+: bool,|[(,] *[a-z_]+: bool' | show "1b flags, as fields and as parameters"
@@ -32,6 +31,6 @@ src 'out: &mut \[u8\], at: usize' | show "6a a buffer and a place in it"
 src '^\s+(pub )?(used|count|left|len): (usize|u64),' | show "6b a length beside a buffer"
 src '^ +[A-Z][A-Za-z]+::[A-Z][A-Za-z]+(\([a-z]+\))? => [a-z_:]+\(' | show "7a arms that only choose a function"
 src '(given|present|here|gridded|closed|late): bool' | show "7b flags that choose a step"
-proofs '^(pub )?[a-z][a-z_0-9-]+ :' | sed 's/^pub //' | sort | uniq -d | show "8a lemma names in more than one file"
+git grep -hoE '^(pub )?[a-z][a-z_0-9-]+ :' "$commit" -- 'crates/*/proofs/[A-Z]*.antt' | sed 's/^pub //' | sort | uniq -d | show "8a lemma names in more than one file"
 git ls-tree -r --name-only "$commit" | grep -cE 'proofs/.*Answers.antt' | sed 's/^/files of answers: /'
 git grep -hcE '.' "$commit" -- 'crates/*/proofs/*.antt' 'crates/*/proofs/**/*.antt' | awk '{s += $1} END {print "lines of proofs: " s}'

@@ -23,10 +23,10 @@ pub all_within_lem : (n : ℕ) (ps : List Point) → Decides (all_within n ps) (
 all_within_lem n ps = Decides-by_and (within n) (Near n) (all_within n) (λ p. (within_near n p, near_within n p)) refl (λ _ _. refl) ps
 
 -- the points within n of the origin on each axis
-abbrev square : ℕ → Bounds
+abbrev pub square : ℕ → Bounds
 square n = record { left = neg_ℤ (pos n); right = pos n; bottom = neg_ℤ (pos n); top = pos n }
 
-near_inside : (n : ℕ) (p : Point) → Near n p → Inside (square n) p
+pub near_inside : (n : ℕ) (p : Point) → Near n p → Inside (square n) p
 near_inside n p h =
     record {
       left = omega (arith, ints, h.x);
@@ -35,7 +35,7 @@ near_inside n p h =
       top = omega (arith, ints, h.y);
     }
 
-inside_near : (n : ℕ) (p : Point) → Inside (square n) p → Near n p
+pub inside_near : (n : ℕ) (p : Point) → Inside (square n) p → Near n p
 inside_near n p h = record { x = omega (arith, ints, h.left, h.right); y = omega (arith, ints, h.bottom, h.top) }
 
 -- two boxes added up at a point
@@ -85,7 +85,7 @@ each_out P p (o ∷ os) vs a =
     All-append P (map (λ v. sum (sum p o) v) vs) (places p os vs) (All-map P (λ v. sum (sum p o) v) vs a.0) (each_out P p os vs a.1)
 
 -- the two parts of a list
-all_parts : (P : Point → Type 0) (xs ys : List Point) → Every P (xs ++ ys) → Every P xs × Every P ys
+pub all_parts : (P : Point → Type 0) (xs ys : List Point) → Every P (xs ++ ys) → Every P xs × Every P ys
 all_parts P [] ys a = (tt, a)
 all_parts P (x ∷ xs) ys a = let r = all_parts P xs ys a.1 in ((a.0, r.0), r.1)
 
@@ -115,7 +115,7 @@ boxes_in f p os vs ro rv a =
     os a))
 
 -- a box around the origin has it inside
-bounds_origin : (ps : List Point) → Holds (bounds_of ps) nothing
+pub bounds_origin : (ps : List Point) → Holds (bounds_of ps) nothing
 bounds_origin ps =
     (folded_out (bounds_of ps) nothing ps
     (record { left = omega (arith, ints); right = omega (arith, ints); bottom = omega (arith, ints); top = omega (arith, ints) })

@@ -1,18 +1,13 @@
 -- A box around points is inside a frame just where the points are.
 use Rattle.std.proofs.Common.{List, [], ◌∷◌, ◌≤ℤ◌, fold, subst, arith}
+use lib.Signed.{≤ℤ_refl}
 use Rattle.std.specs.List.{AllByRecursion as Every}
 use Rattle.std.proofs.lemmas.Int.{ints, clamps}
 use Rattle.bounds.specs.declared.point.Point.{Point}
 use Rattle.bounds.specs.declared.bounds.Bounds.{Bounds}
 use Rattle.bounds.specs.Points.{origin, Rooted}
 use Rattle.bounds.specs.Boxes.{nothing, grown, bounds_of}
-
--- a point inside a frame
-pub record Inside (f : Bounds) (p : Point) : Type 0 where
-  pub left : f.left ≤ℤ p.x
-  pub right : p.x ≤ℤ f.right
-  pub bottom : f.bottom ≤ℤ p.y
-  pub top : p.y ≤ℤ f.top
+pub use Rattle.bounds.specs.Boxes.{Inside}
 
 -- a box inside a frame
 pub record Holds (f b : Bounds) : Type 0 where
@@ -20,6 +15,11 @@ pub record Holds (f b : Bounds) : Type 0 where
   pub right : b.right ≤ℤ f.right
   pub bottom : f.bottom ≤ℤ b.bottom
   pub top : b.top ≤ℤ f.top
+
+-- a box is inside itself
+pub holds_self : (b : Bounds) → Holds b b
+holds_self b =
+    record { left = ≤ℤ_refl b.left; right = ≤ℤ_refl b.right; bottom = ≤ℤ_refl b.bottom; top = ≤ℤ_refl b.top }
 
 module _ (f : Bounds) where
   grown_out : (b : Bounds) (p : Point) → Holds f (grown b p) → Holds f b × Inside f p

@@ -1,13 +1,17 @@
 -- The box around points.
-use Rattle.std.specs.Prelude.{Bool, ◌&&◌, List, pos, fold}
+use Rattle.std.specs.Prelude.{Bool, ◌&&◌, List, ◌≤ℤ◌, fold}
 use Rattle.std.specs.Int.{int_min, int_max}
 use Rattle.bounds.specs.declared.point.Point.{Point}
 use Rattle.bounds.specs.declared.bounds.Bounds.{Bounds}
-use Rattle.bounds.specs.Points.{reach, point, sum, within}
+use Rattle.bounds.specs.Points.{reach, point, origin, sum, within}
 
--- the box of the origin alone
+-- the box of one point
+abbrev pub alone : Point → Bounds
+alone p = record { left = p.x; right = p.x; bottom = p.y; top = p.y }
+
+-- the box of the origin
 abbrev pub nothing : Bounds
-nothing = record { left = pos 0; right = pos 0; bottom = pos 0; top = pos 0 }
+nothing = alone origin
 
 -- the box with one point more
 abbrev pub grown : Bounds → Point → Bounds
@@ -17,6 +21,13 @@ grown b p =
 -- the smallest box around the origin and some points
 abbrev pub bounds_of : List Point → Bounds
 bounds_of ps = fold grown nothing ps
+
+-- a point is in a box
+pub record Inside (b : Bounds) (p : Point) : Type 0 where
+  pub left : b.left ≤ℤ p.x
+  pub right : p.x ≤ℤ b.right
+  pub bottom : b.bottom ≤ℤ p.y
+  pub top : p.y ≤ℤ b.top
 
 -- the corner at the lower left, and that at the upper right
 abbrev pub low_of : Bounds → Point

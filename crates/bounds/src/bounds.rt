@@ -1,12 +1,12 @@
-//! The box around points.
+//! The box around points. That of (3, 4) and (-1, 9) goes from (-1, 4) to (3, 9).
 
 ghost use Rattle.std.specs.Prelude.{◌≡◌};
-ghost use Rattle.bounds.specs.Boxes.{nothing, grown, low_of, high_of};
+ghost use Rattle.bounds.specs.Boxes.{alone, nothing, grown, low_of, high_of};
 
 use crate::point::Point;
 
-/// The smallest box around the origin and some points.
-#[derive(Clone, Copy)]
+/// A box: the lowest and the highest x and y.
+#[derive(Clone, Copy, PartialEq, Eq, Debug)]
 pub struct Bounds {
     pub left: i64,
     pub right: i64,
@@ -15,16 +15,23 @@ pub struct Bounds {
 }
 
 impl Bounds {
-    /// The box of the origin alone.
+    /// The box of one point.
+    pub fn at(p: Point) -> Self
+        ensures alone { result ≡ alone p }
+    {
+        Bounds {
+            left: p.x,
+            right: p.x,
+            bottom: p.y,
+            top: p.y,
+        }
+    }
+
+    /// The box of the origin.
     pub fn origin() -> Self
         ensures alone { result ≡ nothing }
     {
-        Bounds {
-            left: 0,
-            right: 0,
-            bottom: 0,
-            top: 0,
-        }
+        Bounds::at(Point::ORIGIN)
     }
 
     /// The box with one point more.
@@ -38,6 +45,7 @@ impl Bounds {
             top: self.top.max(p.y),
         }
     }
+
     /// The corner at the lower left.
     pub fn low(self) -> Point
         ensures corner { result ≡ low_of self }

@@ -1,47 +1,27 @@
 //! Whether every vertex of every copy of a shape is in reach, told by boxes alone.
 
-ghost use Rattle.std.specs.Prelude.{◌≡◌, ◌^◌, List};
+ghost use Rattle.std.specs.Prelude.{◌≡◌, List};
 ghost use Rattle.bounds.specs.Points.{reach, sum, spot_at, Near, within, all_within, places, Rooted};
 ghost use Rattle.bounds.specs.Boxes.{bounds_of, boxes_fit};
 
 use crate::bounds::Bounds;
 use crate::point::{Point, REACH, Spot};
 
-fn is_near(place: Spot) -> bool
-    ensures { result ≡ within reach (spot_at place) }
-{
-    let reach = u128::from(REACH);
-    place.x.unsigned_abs() <= reach && place.y.unsigned_abs() <= reach
-}
-
-// The place that is `by` away.
-fn moved(place: Spot, by: Point) -> Spot
-    requires { Near (2 ^ 100) (spot_at place) }
-    ensures adds { spot_at result ≡ sum (spot_at place) by }
-    ensures near { Near reach (spot_at place) → Near (2 ^ 64) (spot_at result) }
-{
-    Spot {
-        x: place.x + i128::from(by.x),
-        y: place.y + i128::from(by.y),
-    }
-}
-
 // Whether two offsets, one behind the other from a place in reach, lead to a place in reach.
 fn corner_fits(place: Spot, copy: Point, vertex: Point) -> bool
     requires { Near reach (spot_at place) }
     ensures { result ≡ within reach (sum (sum (spot_at place) copy) vertex) }
 {
-    is_near(moved(moved(place, copy), vertex))
+    (place + copy + vertex).reaches(REACH)
 }
 
 // Whether a place, and both corners of two boxes added up at it, are in reach.
 fn boxes_fit(place: Spot, copies: Bounds, shape: Bounds) -> bool
     ensures { result ≡ boxes_fit (spot_at place) copies shape }
 {
-    if !is_near(place) {
-        return false;
-    }
-    corner_fits(place, copies.low(), shape.low()) && corner_fits(place, copies.high(), shape.high())
+    place.reaches(REACH)
+        && corner_fits(place, copies.low(), shape.low())
+        && corner_fits(place, copies.high(), shape.high())
 }
 
 /// Whether every vertex of every copy is in reach. `place` is where the first vertex of the first copy stands, `copies` is

@@ -8,4 +8,4 @@ mod point;
 
 pub use bounds::Bounds;
 pub use fit::all_fit;
-pub use point::{FAR_REACH, Point, REACH, Spot, plus, reaches};
+pub use point::{FAR_REACH, Point, REACH, Spot};

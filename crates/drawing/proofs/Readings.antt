@@ -52,8 +52,8 @@ drawn_by file p id bs e t r l q =
 
 -- the elements
 pub elements_read : ElementsRead
-elements_read file rest p s (a_start u) k v c e = let z : ◌≡◌ {A = ℕ} 0 1 = cc in absurd (omega arith)
-elements_read file rest p s (a_cell n) k v c e = let z : ◌≡◌ {A = ℕ} 0 1 = cc in absurd (omega arith)
+elements_read file rest p s (a_start u) k v c e = absurd (cc)
+elements_read file rest p s (a_cell n) k v c e = absurd (cc)
 elements_read file rest p s (a_placement n q a f) k v c e =
     let h = (decided (a_placement n q a f)).0 v in
     let m = name_fits n (and_parts (named n) (within reach q) (and_parts (named n && within reach q) (turned a f) v).0).0 in
@@ -87,11 +87,11 @@ elements_read file rest p s (a_path l d h b f (q ∷ qs)) k v c e =
     let g = (decided (a_path l d h b f (q ∷ qs))).0 v in
     let ls : Layers = record { layer = l; datatype = d } in
     let ss : Stroke = record { half = h; start = b; end = f } in
-    let m = vertices_fit false 1 q qs (λ t. let z : ◌≡◌ {A = ℕ} 0 1 = cc in absurd (omega arith)) g.vertices in
+    let m = vertices_fit false 1 q qs (λ t. absurd (cc)) g.vertices in
     drawn_by file p 22 (path_bytes ls ss q qs) (path_of ls ss q qs (p.at + 1)) (a_path l d h b f (q ∷ qs))
     (path_read ls ss q qs (record { layer = g.layer; datatype = g.datatype }) (record { half = g.half; start = g.start; end = g.end }) m file rest p c.inside c.absolute e)
     tt (λ names. ap (λ x. a_path l d h b f x ∷ []) (shown_from file (p.at + 1 + 1 + length (layers_bytes ls) + length (stroke_bytes ss)) false q (q ∷ qs) ((vertices-shown file rest p.at ls q qs).1 ss m e)))
-elements_read file rest p s an_end k v c e = let z : ◌≡◌ {A = ℕ} 0 1 = cc in absurd (omega arith)
+elements_read file rest p s an_end k v c e = absurd (cc)
 
 -- cells
 pub cells_drawn : CellsRead

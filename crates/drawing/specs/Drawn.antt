@@ -1,6 +1,6 @@
 -- The items that a record draws.
-use Rattle.std.specs.Prelude.{ℕ, ◌+◌, Bool, true, false, List, [], ◌∷◌, map, Option}
-use Rattle.std.specs.List.{between}
+use Rattle.std.specs.Prelude.{ℕ, Bool, true, false, List, [], ◌∷◌, map, Option}
+use Rattle.tokens.specs.Parts.{bytes_in}
 use Rattle.bounds.specs.declared.point.Point.{Point}
 use Rattle.bounds.specs.Points.{sum}
 use Rattle.point_lists.specs.Lists.{point_list}
@@ -21,7 +21,7 @@ pub record Naming : Type 0 where
 
 -- a name or a text: the string's bytes, or what the number means
 abbrev pub meant : List ℕ → (ℕ → List ℕ) → Reference → List ℕ
-meant file mean (Given p) = between p.place (p.place + p.size) file
+meant file mean (Given p) = bytes_in file p
 meant file mean (Number k) = mean k.number
 
 -- the vertices of a copy: those of the list at a place, as offsets from the point p

@@ -1,7 +1,7 @@
 -- The explicit form of items: every field given, nothing inherited.
 use Rattle.std.specs.Prelude.{ℕ, ◌+◌, List, [], ◌∷◌, ◌++◌, sum}
 use Rattle.frames.specs.Laws.{end_bytes as end_fields}
-use Rattle.runs.specs.Runs.{magic}
+use Rattle.checksum.specs.Ends.{magic}
 use Rattle.items.specs.Things.{Thing, a_start, a_cell, a_placement, a_text, a_rectangle, a_polygon, a_path, an_end}
 use Rattle.explicit.specs.Bytes.{start_bytes, end_bytes, cell_bytes, placement_bytes, label_bytes, rectangle_bytes, polygon_bytes, path_bytes}
 

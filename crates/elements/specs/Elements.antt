@@ -11,7 +11,6 @@ use Rattle.fields.specs.declared.number.Sides.{Sides}
 use Rattle.fields.specs.declared.reference.Reference.{Reference}
 use Rattle.fields.specs.declared.stroke.Stroke.{Stroke}
 use Rattle.fields.specs.declared.variables.FigureVariables.{FigureVariables}
-use Rattle.fields.specs.declared.variables.LayerVariables.{LayerVariables}
 use Rattle.fields.specs.declared.variables.Modals.{Modals}
 use Rattle.fields.specs.declared.vertices.Outline.{Outline}
 use Rattle.fields.specs.Anchors.{anchor}
@@ -19,13 +18,10 @@ use Rattle.fields.specs.Numbers.{layers, sides}
 use Rattle.fields.specs.References.{reference}
 use Rattle.fields.specs.Shapes.{vertices_of, outline}
 use Rattle.fields.specs.Strokes.{stroke}
+use Rattle.fields.specs.Variables.{stored_layers, stored_sides}
 use Rattle.elements.specs.declared.element.Drawn.{Drawn}
 use Rattle.elements.specs.declared.element.Element.TheVariants as element
 use Rattle.elements.specs.Infos.{info, rectangle_info, form_of, present_of, following}
-
--- a layer and a datatype are stored
-abbrev pub stored_layers : Layers → LayerVariables
-stored_layers l = record { layer = Some l.layer; datatype = Some l.datatype }
 
 -- a placement, and the variables after it: its cell, its place and its repetition
 abbrev pub placed : Modals → (info : ℕ) → Reference → Anchor → Drawn
@@ -101,7 +97,7 @@ sized m l s a =
         placement = m.placement;
         text = m.text;
         figure = figure_after l a;
-        sides = record { width = Some s.width; height = Some s.height };
+        sides = stored_sides s;
         polygon = m.polygon;
         path = m.path;
       };

@@ -4,6 +4,7 @@ use bounds::Point;
 use fields::{Layers, Modals, Reference, Repeated, Sides, Stroke};
 
 /// A cell that is placed: turned by so many quarters, and flipped before that if `flip` is 1.
+// Both stay numbers: a listed record prints them as numbers, and the drawing of a file is stated with them as numbers.
 #[derive(Clone, Copy)]
 pub struct Placement {
     pub cell: Reference,

@@ -1,24 +1,21 @@
 //! Rectangles, polygons and paths.
 
 ghost use Rattle.std.specs.Prelude.{◌≡◌};
-ghost use Rattle.elements.specs.Elements.{figure_after, sized, closed as closed_figure, drawn as open_figure, rectangle, polygon, path};
+ghost use Rattle.fields.specs.Anchors.{anchor};
+ghost use Rattle.fields.specs.Shapes.{shape_of, Drawn as Outlined};
+ghost use Rattle.elements.specs.Infos.{following};
+ghost use Rattle.elements.specs.Elements.{figure_after, figure_present, sized, closed as closed_figure, drawn as open_figure, rectangle, polygon, path};
 
 use crate::element::{Drawn, Element, Path, Polygon, Rectangle};
-use crate::info::{following_at, present_of, read_info, read_rectangle_info};
+use crate::info::{AnchorFlags, following_at, present_of, read_info, read_rectangle_info};
 use fields::{
-    Anchor, FigureVariables, LayerVariables, Layers, Modals, Outline, PathVariables, Present,
-    SideVariables, Sides, Stroke, read_anchor, read_layers, read_outline, read_sides, read_stroke,
+    Anchor, FigureVariables, LayerVariables, Layers, Modals, Outline, PathVariables, SideVariables,
+    Sides, Stroke, read_anchor, read_layers, read_outline, read_sides, read_stroke,
 };
 use tokens::{Read, TokenFault, has_flag};
 
-// The flags that figures share: SWHXYRDL of a rectangle, 00PXYRDL of a polygon, EWPXYRDL of a path.
+// The flag of a point list, in 00PXYRDL of a polygon and EWPXYRDL of a path.
 const LIST: u8 = 0x20;
-
-const X: u8 = 0x10;
-
-const Y: u8 = 0x08;
-
-const REPETITION: u8 = 0x04;
 
 // What a polygon may not have.
 const POLYGON_RESERVED: u8 = 0xc0;
@@ -29,11 +26,31 @@ fn figure_after(layers: Layers, anchor: Anchor) -> FigureVariables
 {
     FigureVariables {
         at: anchor.at,
-        layers: LayerVariables {
-            layer: Some(layers.layer),
-            datatype: Some(layers.datatype),
-        },
+        layers: LayerVariables::from(layers),
     }
+}
+
+// The coordinates and the repetition of a figure.
+fn read_figure_anchor(
+    file: &[u8],
+    at: usize,
+    first: usize,
+    info: u8,
+    m: Modals,
+    shape: Option<Outline>,
+) -> Result<Read<Anchor>, TokenFault>
+    requires { Outlined file.now shape }
+    ensures reads { result ≡ anchor file.now at first (figure_present info) (following m m.figure.at) (shape_of file.now shape) }
+{
+    let present = present_of(info, AnchorFlags::FIGURE);
+    read_anchor(
+        file,
+        at,
+        first,
+        present,
+        following_at(m, m.figure.at),
+        shape,
+    )
 }
 
 // The rectangle, and the variables after it.
@@ -46,15 +63,11 @@ fn size(m: Modals, layers: Layers, sides: Sides, anchor: Anchor) -> Drawn
         at: anchor.at,
         repetition: anchor.repetition,
     });
-    let stored = SideVariables {
-        width: Some(sides.width),
-        height: Some(sides.height),
-    };
     Drawn {
         element,
         modals: Modals {
             figure: figure_after(layers, anchor),
-            sides: stored,
+            sides: SideVariables::from(sides),
             repetition: anchor.stored,
             ..m
         },
@@ -74,19 +87,8 @@ pub fn read_rectangle(
     let flags = info.value;
     let layers = read_layers(file, info.next, first, flags, m.figure.layers)?;
     let sides = read_sides(file, layers.next, first, flags, m.sides)?;
-    let present = present_of(flags, X, Y, REPETITION);
-    let anchor = read_anchor(
-        file,
-        sides.next,
-        first,
-        present,
-        following_at(m, m.figure.at),
-        None,
-    )?;
-    Ok(Read {
-        value: size(m, layers.value, sides.value, anchor.value),
-        next: anchor.next,
-    })
+    let anchor = read_figure_anchor(file, sides.next, first, flags, m, None)?;
+    Ok(anchor.map(|anchor| size(m, layers.value, sides.value, anchor)))
 }
 
 // The polygon, and the variables after it.
@@ -131,19 +133,8 @@ pub fn read_polygon(
         has_flag(flags, LIST),
         m.polygon,
     )?;
-    let present = present_of(flags, X, Y, REPETITION);
-    let anchor = read_anchor(
-        file,
-        list.next,
-        first,
-        present,
-        following_at(m, m.figure.at),
-        Some(list.value),
-    )?;
-    Ok(Read {
-        value: close(m, layers.value, list.value, anchor.value),
-        next: anchor.next,
-    })
+    let anchor = read_figure_anchor(file, list.next, first, flags, m, Some(list.value))?;
+    Ok(anchor.map(|anchor| close(m, layers.value, list.value, anchor)))
 }
 
 // The path, and the variables after it.
@@ -191,17 +182,6 @@ pub fn read_path(file: &[u8], at: usize, first: usize, m: Modals) -> Result<Read
         has_flag(flags, LIST),
         m.path.list,
     )?;
-    let present = present_of(flags, X, Y, REPETITION);
-    let anchor = read_anchor(
-        file,
-        list.next,
-        first,
-        present,
-        following_at(m, m.figure.at),
-        Some(list.value),
-    )?;
-    Ok(Read {
-        value: draw(m, layers.value, stroke.value, list.value, anchor.value),
-        next: anchor.next,
-    })
+    let anchor = read_figure_anchor(file, list.next, first, flags, m, Some(list.value))?;
+    Ok(anchor.map(|anchor| draw(m, layers.value, stroke.value, list.value, anchor)))
 }

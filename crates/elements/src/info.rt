@@ -4,12 +4,35 @@ ghost use Rattle.std.specs.Prelude.{◌≡◌, ◌&&◌};
 ghost use Rattle.elements.specs.Infos.{info as info_at, rectangle_info, form_of, present_of, following};
 
 use bounds::Point;
-use fields::{AnchorVariables, Form, Modals, Present};
+use fields::{AnchorVariables, Form, HEIGHT, Modals, Present, SQUARE};
 use tokens::{FaultKind, Read, TokenFault, has_flag, read_byte, refuse};
 
-const SQUARE: u8 = 0x80;
+/// The flags of an info byte that announce the coordinates and the repetition.
+#[derive(Clone, Copy)]
+pub struct AnchorFlags {
+    pub x: u8,
+    pub y: u8,
+    pub repetition: u8,
+}
 
-const HEIGHT: u8 = 0x20;
+impl AnchorFlags {
+    /// Those of a placement, CNXYRAAF.
+    pub const PLACEMENT: Self = AnchorFlags {
+        x: 0x20,
+        y: 0x10,
+        repetition: 0x08,
+    };
+
+    /// Those of a text, 0CNXYRTL.
+    pub const TEXT: Self = AnchorFlags {
+        x: 0x10,
+        y: 0x08,
+        repetition: 0x04,
+    };
+
+    /// Those of a figure, SWHXYRDL, 00PXYRDL or EWPXYRDL, which stand where those of a text do.
+    pub const FIGURE: Self = Self::TEXT;
+}
 
 /// The info byte at the place `at`, of which the flags of the mask are reserved.
 pub fn read_info(file: &[u8], at: usize, reserved: u8) -> Result<Read<u8>, TokenFault>
@@ -23,6 +46,7 @@ pub fn read_info(file: &[u8], at: usize, reserved: u8) -> Result<Read<u8>, Token
 }
 
 /// The info byte of a rectangle: a square has no height.
+// The two flags are reserved only together, which no mask of `read_info` can say.
 pub fn read_rectangle_info(file: &[u8], at: usize) -> Result<Read<u8>, TokenFault>
     ensures reads { result ≡ rectangle_info file.now at }
 {
@@ -47,13 +71,13 @@ pub fn form_of(info: u8, given: u8, numbered: u8) -> Form
 }
 
 /// Which of the coordinates and the repetition are present, by their flags.
-pub fn present_of(info: u8, x: u8, y: u8, repetition: u8) -> Present
-    ensures tells { result ≡ present_of info x y repetition }
+pub fn present_of(info: u8, flags: AnchorFlags) -> Present
+    ensures tells { result ≡ present_of info flags.x flags.y flags.repetition }
 {
     Present {
-        x: has_flag(info, x),
-        y: has_flag(info, y),
-        repetition: has_flag(info, repetition),
+        x: has_flag(info, flags.x),
+        y: has_flag(info, flags.y),
+        repetition: has_flag(info, flags.repetition),
     }
 }
 

@@ -4,36 +4,27 @@ ghost use Rattle.std.specs.Prelude.{◌≡◌};
 ghost use Rattle.elements.specs.Elements.{placed, lettered, placement, text as text_element};
 
 use crate::element::{Drawn, Element, Placement, Text};
-use crate::info::{following_at, form_of, present_of, read_info};
+use crate::info::{AnchorFlags, following_at, form_of, present_of, read_info};
 use fields::{
     Anchor, LayerVariables, Layers, Modals, PlacementVariables, Reference, TextVariables,
     read_anchor, read_layers, read_reference,
 };
 use tokens::{Read, StringRule, TokenFault};
 
-// The flags of a placement, CNXYRAAF.
+// The flag of a placement, CNXYRAAF, that announces a cell.
 const CELL: u8 = 0x80;
 
+// The flag of a placement that says that the cell is a number.
 const CELL_NUMBER: u8 = 0x40;
 
-const PLACEMENT_X: u8 = 0x20;
-
-const PLACEMENT_Y: u8 = 0x10;
-
-const PLACEMENT_REPETITION: u8 = 0x08;
-
-// The flags of a text, 0CNXYRTL.
+// What a text, 0CNXYRTL, may not have.
 const TEXT_RESERVED: u8 = 0x80;
 
+// The flag of a text record that announces a text.
 const TEXT: u8 = 0x40;
 
+// The flag of a text record that says that the text is a number.
 const TEXT_NUMBER: u8 = 0x20;
-
-const TEXT_X: u8 = 0x10;
-
-const TEXT_Y: u8 = 0x08;
-
-const TEXT_REPETITION: u8 = 0x04;
 
 // The placement, and the variables after it.
 fn place(m: Modals, info: u8, cell: Reference, anchor: Anchor) -> Drawn
@@ -80,7 +71,7 @@ pub fn read_placement(
         form,
         m.placement.cell,
     )?;
-    let present = present_of(flags, PLACEMENT_X, PLACEMENT_Y, PLACEMENT_REPETITION);
+    let present = present_of(flags, AnchorFlags::PLACEMENT);
     let anchor = read_anchor(
         file,
         cell.next,
@@ -89,10 +80,7 @@ pub fn read_placement(
         following_at(m, m.placement.at),
         None,
     )?;
-    Ok(Read {
-        value: place(m, flags, cell.value, anchor.value),
-        next: anchor.next,
-    })
+    Ok(anchor.map(|anchor| place(m, flags, cell.value, anchor)))
 }
 
 // The text, and the variables after it.
@@ -108,10 +96,7 @@ fn letter(m: Modals, text: Reference, layers: Layers, anchor: Anchor) -> Drawn
     let stored = TextVariables {
         at: anchor.at,
         text: Some(text),
-        layers: LayerVariables {
-            layer: Some(layers.layer),
-            datatype: Some(layers.datatype),
-        },
+        layers: LayerVariables::from(layers),
     };
     Drawn {
         element,
@@ -132,7 +117,7 @@ pub fn read_text(file: &[u8], at: usize, first: usize, m: Modals) -> Result<Read
     let form = form_of(flags, TEXT, TEXT_NUMBER);
     let text = read_reference(file, info.next, first, StringRule::Ascii, form, m.text.text)?;
     let layers = read_layers(file, text.next, first, flags, m.text.layers)?;
-    let present = present_of(flags, TEXT_X, TEXT_Y, TEXT_REPETITION);
+    let present = present_of(flags, AnchorFlags::TEXT);
     let anchor = read_anchor(
         file,
         layers.next,
@@ -141,8 +126,5 @@ pub fn read_text(file: &[u8], at: usize, first: usize, m: Modals) -> Result<Read
         following_at(m, m.text.at),
         None,
     )?;
-    Ok(Read {
-        value: letter(m, text.value, layers.value, anchor.value),
-        next: anchor.next,
-    })
+    Ok(anchor.map(|anchor| letter(m, text.value, layers.value, anchor)))
 }

@@ -1,12 +1,15 @@
 -- Bytes that are put into memory one behind the other come together.
 use Rattle.std.proofs.Common.{◌≡◌, ℕ, ◌+◌, ◌<◌, ◌≤◌, List, [], ◌∷◌, ◌++◌, length, take, drop, set, sym, refl, ap, ◌∙◌, append_assoc, add-zero, add-one, arith, length-append, length-drop, take-append-drop, length-take}
 use Rattle.std.proofs.lemmas.List.{set_split, take_at, drop_at, drop-drop}
+use Rattle.std.proofs.lemmas.Slice.{take-put_mid, drop-put_mid}
+use borrow.Rule.Slice.PartMut.{put_mid}
 use Rattle.tokens.specs.Answers.{Answer, got}
 use Rattle.tokens.specs.Readers.{Back}
-use Rattle.encoding.specs.Laid.{laid, Put}
+use Rattle.encoding.specs.declared.put.Buffer.{Buffer}
+use Rattle.encoding.specs.Laid.{laid, Room, Put}
 
 -- one byte laid is one byte set
-laid_one : (d : List ℕ) (n b : ℕ) → n < length d → set d n b ≡ laid d n (b ∷ [])
+pub laid_one : (d : List ℕ) (n b : ℕ) → n < length d → set d n b ≡ laid d n (b ∷ [])
 unfolding laid
 laid_one d n b h = rw add-one (set_split d n b h)
 
@@ -58,46 +61,47 @@ module _ (d : List ℕ) (n : ℕ) (s : List ℕ) (h : n + length s ≤ length d)
       ∙ ap (λ a. take n d ++ a) (sym (append_assoc s t (drop (n + length (s ++ t)) d)))
 
 -- nothing put
-pub put_none : (d : List ℕ) (n : ℕ) → n ≤ length d → Put d n [] d n
-put_none d n h = record { fits = omega arith; memory = laid_none d n; next = omega arith }
+pub put_none : (b : Buffer) → b.at ≤ length b.bytes.now → Put b [] b
+put_none b h = record { fits = omega arith; memory = laid_none b.bytes.now b.at; next = omega arith; lender = refl }
 
--- one byte put
-pub put_one : (d : List ℕ) (n b : ℕ) → n < length d → Put d n (b ∷ []) (set d n b) (n + 1)
-put_one d n b h = record { fits = omega arith; memory = laid_one d n b h; next = refl }
+-- a part of the memory replaced by bytes of its length
+pub part_set : (d : List ℕ) (n k : ℕ) (s : List ℕ) → n + length s ≤ length d → k ≡ length s → put_mid n k d s ≡ laid d n s
+unfolding laid
+part_set d n k s h q =
+    let m = n + length s in
+    sym (take-append-drop m (put_mid n k d s))
+    ∙ ap (λ f. f ++ drop m (put_mid n k d s)) (take-put_mid n k d s m refl (omega arith))
+    ∙ ap (λ b. (take n d ++ s) ++ b) (drop-put_mid n k d s m (omega (arith, q)) (omega arith) (sym q))
+    ∙ append_assoc (take n d) s (drop m d)
 
 -- memory keeps its length
-pub put-length : {d s e : List ℕ} {n k : ℕ} → Put d n s e k → length e ≡ length d
-put-length {d} {s} {e} {n} {k} p = ap length p.memory ∙ laid-length d n s p.fits
+pub put-length : {b c : Buffer} {s : List ℕ} → Put b s c → length c.bytes.now ≡ length b.bytes.now
+put-length {b} {c} {s} p = ap length p.memory ∙ laid-length b.bytes.now b.at s p.fits
 
 -- some bytes put, and others behind them
-pub put_then : {d s e t f : List ℕ} {n k m : ℕ} → Put d n s e k → Put e k t f m → Put d n (s ++ t) f m
-put_then {d} {s} {e} {t} {f} {n} {k} {m} p q =
+pub put_then : {b c d : Buffer} {s t : List ℕ} → Put b s c → Put c t d → Put b (s ++ t) d
+put_then {b} {c} {d} {s} {t} p q =
     let size : length (s ++ t) ≡ length s + length t = length-append s t in
-    let same : length e ≡ length d = put-length p in
+    let same : length c.bytes.now ≡ length b.bytes.now = put-length p in
     record {
       fits = omega (arith, p.next, q.fits, p.fits);
       memory = q.memory
-          ∙ ap (λ a. laid a k t) p.memory
-          ∙ ap (λ a. laid (laid d n s) a t) p.next
-          ∙ laid-laid d n s p.fits t;
+          ∙ ap (λ a. laid a c.at t) p.memory
+          ∙ ap (λ a. laid (laid b.bytes.now b.at s) a t) p.next
+          ∙ laid-laid b.bytes.now b.at s p.fits t;
       next = omega (arith, p.next, q.next);
+      lender = q.lender ∙ p.lender;
     }
 
 -- equal bytes put
-pub put_is : {d s t e : List ℕ} {n k : ℕ} → s ≡ t → Put d n s e k → Put d n t e k
-put_is {d} {s} {t} {e} {n} {k} q p = rw q at p
-
--- what stands before the place behind the bytes
-pub put_front : {d s e : List ℕ} {n k : ℕ} → Put d n s e k → take k e ≡ take n d ++ s
-put_front {d} {s} {e} {n} {k} p =
-    ap (take k) p.memory ∙ ap (λ i. take i (laid d n s)) p.next ∙ laid_front d n s p.fits
-
--- what stands behind it
-pub put_back : {d s e : List ℕ} {n k : ℕ} → Put d n s e k → drop k e ≡ drop k d
-put_back {d} {s} {e} {n} {k} p =
-    ap (drop k) p.memory ∙ ap (λ i. drop i (laid d n s)) p.next ∙ laid_back d n s p.fits ∙ ap (λ i. drop i d) (sym p.next)
+pub put_is : {b c : Buffer} {s t : List ℕ} → s ≡ t → Put b s c → Put b t c
+put_is {b} {c} {s} {t} q p = rw q at p
 
 -- what was put is read again, and the reader stops behind it
-pub put_again : {A : Type 0} {d s e : List ℕ} {n k : ℕ} {r : Answer A} {v : A} → Put d n s e k → Back e n s r v → r ≡ got v k
-put_again {d = d} {s = s} {e = e} {n = n} {k = k} {v = v} p b =
-    sym (ap (λ i. got v i) p.next ∙ b.again (drop (n + length s) d) (ap (drop n) p.memory ∙ laid_here d n s p.fits))
+pub put_again : {A : Type 0} {b c : Buffer} {s : List ℕ} {r : Answer A} {v : A} → Put b s c → Back c.bytes.now b.at s r v → r ≡ got v c.at
+put_again {b = b} {c = c} {s = s} {v = v} p back =
+    sym (ap (λ i. got v i) p.next ∙ back.again (drop (b.at + length s) b.bytes.now) (ap (drop b.at) p.memory ∙ laid_here b.bytes.now b.at s p.fits))
+
+-- room for bytes and others behind them is room for the others once the first are put
+pub room_then : {b c : Buffer} {s u : List ℕ} (t : List ℕ) → s ++ t ≡ u → Put b s c → Room b u → Room c t
+room_then {s = s} t e p h = omega (arith, h, p.next, put-length p, ap length e, length-append s t)

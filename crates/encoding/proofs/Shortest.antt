@@ -1,11 +1,12 @@
 -- The shortest chain, byte by byte.
-use Rattle.std.proofs.Common.{◌≡◌, ℕ, zero, suc, ◌+◌, ◌/◌, ◌%◌, ◌^◌, ◌<◌, ◌≤◌, ltb, List, [], ◌∷◌, ◌++◌, length, sym, refl, ap, ◌∙◌, append_assoc, pow-suc, arith, length-append}
+use Rattle.std.proofs.Common.{◌≡◌, ℕ, zero, suc, ◌+◌, ◌*◌, ◌/◌, ◌%◌, ◌^◌, ◌<◌, ◌≤◌, ltb, List, [], ◌∷◌, ◌++◌, length, sym, refl, ap, ◌∙◌, append_assoc, pow-suc, arith, length-append}
+use Rattle.std.proofs.Math.Nat.{one-le-pow}
 use Rattle.std.proofs.lemmas.Nat.{div_below}
 use Rattle.std.proofs.lemmas.Bool.{cond-true, cond-false, cond_both, lt-ltb, le-ltb}
 use Rattle.tokens.specs.Chains.{radix}
 use Rattle.tokens.specs.Encodings.{shortest_in, shortest}
-use Rattle.tokens.proofs.Encodings.{shortest_sizes}
-use Rattle.encoding.specs.Laid.{Put}
+use Rattle.encoding.specs.declared.put.Buffer.{Buffer}
+use Rattle.encoding.specs.Laid.{Room, Put}
 use Rattle.encoding.proofs.Laying.{put_none, put_then, put_is, put-length}
 
 -- the last byte
@@ -55,46 +56,23 @@ module _ (n : ℕ) (front : List ℕ) (left : ℕ) (l : Left n front left) where
   pub left_last : left < radix → front ++ left ∷ [] ≡ shortest n
   left_last h = ap (λ b. front ++ b) (sym (last_byte l.more left h)) ∙ l.rest
 
--- a count of the bytes of the chain for n, where `size` counts those that were written and one
-pub record Sized (n left size : ℕ) : Type 0 where
+-- the chain for n is being put into the buffer b: it is c now, and `left` is yet to come
+pub record Putting (b : Buffer) (n : ℕ) (c : Buffer) (left : ℕ) : Type 0 where
   pub front : List ℕ
   pub rest : Left n front left
-  pub counts : size ≡ length front + 1
+  pub put : Put b front c
+  pub room : Room b (shortest n)
 
-pub sized_all : (n : ℕ) → n < 2 ^ 64 → Sized n n 1
-sized_all n h = record { front = []; rest = left_all n h; counts = refl }
+pub putting_all : (b : Buffer) (n : ℕ) → n < 2 ^ 64 → Room b (shortest n) → Putting b n b n
+putting_all b n h room = record { front = []; rest = left_all n h; put = put_none b (omega arith); room = room }
 
-pub sized_more : (n left size : ℕ) → Sized n left size → radix ≤ left → Sized n (left / radix) (size + 1)
-sized_more n left size s h =
-    record {
-      front = s.front ++ (left % radix + radix) ∷ [];
-      rest = left_more n s.front left s.rest h;
-      counts = omega (arith, s.counts, length-append s.front ((left % radix + radix) ∷ []));
-    }
-
-pub sized_last : (n left size : ℕ) → Sized n left size → left < radix → size ≡ length (shortest n)
-sized_last n left size s h = omega (arith, s.counts, length-append s.front (left ∷ []), ap length (left_last n s.front left s.rest h))
-
-pub sized_few : (n left size : ℕ) → Sized n left size → size ≤ 10
-sized_few n left size s = omega (arith, s.counts, left_room n s.front left s.rest, (shortest_sizes n).1)
-
--- the chain for n is being put into memory d at the place `at`: it is e now, the next place is k, and `left` is yet to come
-pub record Putting (d : List ℕ) (at n : ℕ) (e : List ℕ) (k left : ℕ) : Type 0 where
-  pub front : List ℕ
-  pub rest : Left n front left
-  pub put : Put d at front e k
-  pub room : at + length (shortest n) ≤ length d
-
-pub putting_all : (d : List ℕ) (at n : ℕ) → n < 2 ^ 64 → at + length (shortest n) ≤ length d → Putting d at n d at n
-putting_all d at n h room = record { front = []; rest = left_all n h; put = put_none d at (omega arith); room = room }
-
-module _ (d : List ℕ) (at n : ℕ) (e : List ℕ) (k left : ℕ) (p : Putting d at n e k left) where
-  -- the next place is in memory
-  pub putting_inside : k < length e
+module _ (b : Buffer) (n : ℕ) (c : Buffer) (left : ℕ) (p : Putting b n c left) where
+  -- the next place is in the buffer
+  pub putting_inside : c.at < length c.bytes.now
   putting_inside = omega (arith, left_room n p.front left p.rest, p.put.next, put-length p.put, p.room)
 
-  pub putting_more : (f : List ℕ) (m : ℕ) → radix ≤ left → Put e k ((left % radix + radix) ∷ []) f m → Putting d at n f m (left / radix)
-  putting_more f m h q =
+  pub putting_more : (d : Buffer) → radix ≤ left → Put c ((left % radix + radix) ∷ []) d → Putting b n d (left / radix)
+  putting_more d h q =
       record {
         front = p.front ++ (left % radix + radix) ∷ [];
         rest = left_more n p.front left p.rest h;
@@ -102,5 +80,26 @@ module _ (d : List ℕ) (at n : ℕ) (e : List ℕ) (k left : ℕ) (p : Putting 
         room = p.room;
       }
 
-  pub putting_last : (f : List ℕ) (m : ℕ) → left < radix → Put e k (left ∷ []) f m → Put d at (shortest n) f m
-  putting_last f m h q = put_is (left_last n p.front left p.rest h) (put_then p.put q)
+  pub putting_last : (d : Buffer) → left < radix → Put c (left ∷ []) d → Put b (shortest n) d
+  putting_last d h q = put_is (left_last n p.front left p.rest h) (put_then p.put q)
+
+-- a logarithm tells how many bytes there are
+step_length : (m k n : ℕ) → n < radix ^ suc m → radix ^ k ≤ n → n < radix * radix ^ k → length (shortest_in m n) ≡ k + 1
+step_length m zero n small low high = ap length (last_byte m n (omega arith))
+step_length zero (suc k) n small low high =
+    let e : radix ^ suc k ≡ radix ^ k * radix = pow-suc radix k in
+    let some : 0 < radix ^ k = one-le-pow k radix (omega arith) in
+    absurd (omega arith)
+step_length (suc m) (suc k) n small low high =
+    let e : radix ^ suc k ≡ radix ^ k * radix = pow-suc radix k in
+    let some : 0 < radix ^ k = one-le-pow k radix (omega arith) in
+    let r = step_length m k (n / radix) (div_below n radix (radix ^ suc m) (omega arith) (rw pow-suc at small)) (omega arith) (omega arith) in
+    omega (arith, ap length (next_byte m n (omega arith)), r)
+
+pub log_length : (k n : ℕ) → radix ^ k ≤ n → n < radix * radix ^ k → n < 2 ^ 64 → length (shortest n) ≡ k + 1
+unfolding shortest
+log_length k n low high h = step_length 9 k n (omega arith) low high
+
+pub zero_length : (n : ℕ) → n ≡ 0 → length (shortest n) ≡ 1
+unfolding shortest
+zero_length n h = ap length (last_byte 9 n (omega arith))

@@ -1,24 +1,18 @@
 //! How many bytes a token takes: 16384 takes three, `80 80 01`.
 
-ghost use Rattle.std.specs.Prelude.{◌≡◌, ℕ, ◌+◌, ◌*◌, ◌^◌, ◌<◌, ◌≤◌, min, length};
+ghost use Rattle.std.specs.Prelude.{◌≡◌, ◌≤◌, min, length};
 ghost use Rattle.tokens.specs.Chains.{largest};
 ghost use Rattle.tokens.specs.Encodings.{shortest, code_of, signed_bytes, g_delta_bytes, text_bytes, FitsSigned, FitsDelta};
 
-// How many values the seven bits of a byte have.
-const RADIX: u64 = 128;
+// How many values the seven bits of a byte have. A byte that another one follows is this or more.
+pub(crate) const RADIX: u64 = 128;
 
 /// How many bytes the shortest chain for an integer has.
 pub fn unsigned_size(n: u64) -> usize
     ensures bytes { result ≡ length (shortest n) }
     ensures few { (1 ≤ result) × (result ≤ 10) × (n ≤ largest → result ≤ 7) }
 {
-    let mut left = n;
-    let mut size = 1;
-    while left >= RADIX {
-        left /= RADIX;
-        size += 1;
-    }
-    size
+    n.checked_ilog(RADIX).map_or(1, |log| log as usize + 1)
 }
 
 /// The integer whose bit 0 is the sign of `z` and whose other bits are its size.

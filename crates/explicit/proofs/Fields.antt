@@ -1,5 +1,5 @@
 -- Fields that are given are read again.
-use Rattle.std.proofs.Common.{◌≡◌, ℕ, suc, ◌+◌, ◌-◌, ◌≤◌, Bool, true, false, cond, leb, List, [], ◌∷◌, ◌++◌, map, length, ℤ, pos, ◌+ℤ◌, ◌-ℤ◌, nat_abs, None, Option, sym, refl, ap, ◌∙◌, subst, ap₂, arith, length-append}
+use Rattle.std.proofs.Common.{◌≡◌, ℕ, suc, ◌+◌, ◌≤◌, Bool, true, false, cond, leb, List, [], ◌∷◌, ◌++◌, map, length, ℤ, pos, ◌+ℤ◌, ◌-ℤ◌, nat_abs, None, Option, sym, refl, ap, ◌∙◌, subst, ap₂, arith}
 use lib.ListN.{length-map}
 use Rattle.std.specs.List.{AllByRecursion as Every}
 use Rattle.std.proofs.lemmas.List.{append_assoc}
@@ -10,7 +10,8 @@ use Rattle.tokens.specs.Answers.{got, then}
 use Rattle.tokens.specs.Encodings.{shortest, signed_bytes, FitsSigned, text_bytes, FitsText}
 use Rattle.tokens.specs.Readers.{Back}
 use Rattle.tokens.proofs.Backs.{back_then, back_last, back_is}
-use Rattle.tokens.proofs.Encodings.{small_back, unsigned_back, signed_back, text_back, code_size}
+use Rattle.tokens.proofs.Encodings.{small_back, unsigned_back, signed_back, code_size}
+use Rattle.tokens.proofs.Parts.{part_back}
 use Rattle.bounds.specs.declared.point.Point.{Point}
 use Rattle.bounds.specs.Boxes.{bounds_of}
 use Rattle.bounds.specs.Points.{reach, origin, sum, Near, all_within, places}
@@ -71,9 +72,7 @@ stroke_back file at first v s h =
 
 -- a string, by the part of the file where its text stands
 pub string_back : (rule : StringRule) (file : List ℕ) (at : ℕ) (t : List ℕ) → FitsText rule t → Back file at (text_bytes t) (string_at rule file at) (text_given at t)
-string_back rule file at t h =
-    let n : at + length (text_bytes t) - length t ≡ at + length (shortest (length t)) = omega (arith, length-append (shortest (length t)) t) in
-    back_last _ (back_last _ (text_back rule file at t h) (ap (λ k. got (record { place = k; size = length t }) (at + length (text_bytes t))) n)) refl
+string_back rule file at t h = back_last _ (part_back rule file at t h) refl
 
 -- a coordinate that is given in absolute mode
 coordinate_back : (file : List ℕ) (at : ℕ) (relative : Bool) (v z : ℤ) → relative ≡ false → nat_abs z ≤ reach → Back file at (signed_bytes z) (coordinate file at true relative v) z

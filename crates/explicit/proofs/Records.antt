@@ -10,7 +10,8 @@ use Rattle.tokens.proofs.Backs.{after, back_last, back_none, back_is}
 use Rattle.tokens.proofs.Encodings.{small_back}
 use Rattle.fields.specs.Variables.{fresh}
 use Rattle.frames.specs.declared.end.End.{End}
-use Rattle.frames.specs.Ends.{sum_scheme, end}
+use Rattle.frames.specs.declared.end.End.TheVariants.{Checksum32}
+use Rattle.frames.specs.Ends.{end}
 use Rattle.frames.specs.Laws.{end_bytes as end_fields, four_bytes, sum_before}
 use Rattle.frames.proofs.Backs.{start_back, end_back}
 use Rattle.elements.specs.declared.element.Drawn.{Drawn}
@@ -117,7 +118,7 @@ start_read file rest p u h due s =
 pub end_read : EndRead
 end_read file p between early s =
     let v : ℕ = sum_before file p.at in
-    let e : End = record { scheme = sum_scheme; signature = v } in
+    let e : End = Checksum32 v in
     let r : end file (p.at + 1) p.at p.context.late ≡ got e (length file) =
     ap (end file (p.at + 1) p.at) early ∙ end_back file p.at (after file p.at (0x02 ∷ []) (end_fields ++ four_bytes v) s) in
     step_by file p 2 (end_fields ++ four_bytes v) action.End (reset state.Ended p.context.late (content.End e)) (length file) (omega arith)

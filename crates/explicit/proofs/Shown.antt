@@ -2,6 +2,7 @@
 use Rattle.std.proofs.Common.{◌≡◌, ℕ, ◌+◌, ◌-◌, ◌*◌, Bool, true, false, List, [], ◌∷◌, ◌++◌, length, take, drop, sym, refl, ap, ◌∙◌, arith}
 use Rattle.std.proofs.lemmas.List.{append_assoc, take_at}
 use Rattle.tokens.specs.Encodings.{shortest, text_bytes}
+use Rattle.tokens.specs.Parts.{bytes_in, text_part}
 use Rattle.tokens.proofs.Backs.{after}
 use Rattle.bounds.specs.declared.point.Point.{Point}
 use Rattle.bounds.specs.Points.{origin, places}
@@ -9,7 +10,7 @@ use Rattle.point_lists.specs.Laws.{list_bytes}
 use Rattle.point_lists.proofs.Backs.{list_back}
 use Rattle.fields.specs.Shapes.{points_or}
 use Rattle.explicit.specs.Bytes.{layers_bytes, stroke_bytes, place_bytes}
-use Rattle.explicit.specs.Contents.{text_part, shown_text, shown_vertices}
+use Rattle.explicit.specs.Contents.{shown_vertices}
 use Rattle.explicit.specs.Laws.{TextsShown, VerticesShown}
 use Rattle.explicit.specs.Legal.{FitsVertices}
 use Rattle.explicit.proofs.Fields.{from_first}
@@ -19,7 +20,7 @@ past : (file : List ℕ) (at : ℕ) (a b rest : List ℕ) → drop at file ≡ (
 past file at a b rest s = after file at a (b ++ rest) (s ∙ append_assoc a b rest)
 
 -- the text of a string that stands in a file
-text-shown : (file : List ℕ) (at : ℕ) (t rest : List ℕ) → drop at file ≡ text_bytes t ++ rest → shown_text file (text_part at t) ≡ t
+text-shown : (file : List ℕ) (at : ℕ) (t rest : List ℕ) → drop at file ≡ text_bytes t ++ rest → bytes_in file (text_part at t) ≡ t
 text-shown file at t rest s =
     let n : ℕ = at + length (shortest (length t)) in
     let d : n + length t - n ≡ length t = omega arith in

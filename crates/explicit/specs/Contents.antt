@@ -1,13 +1,11 @@
 -- What explicit bytes are read as, by the place where they stand.
 use Rattle.std.specs.Prelude.{ℕ, suc, ◌+◌, Bool, List, [], ◌∷◌, length, None}
-use Rattle.std.specs.List.{between}
-use Rattle.tokens.specs.Encodings.{shortest}
+use Rattle.tokens.specs.Parts.{text_part}
 use Rattle.bounds.specs.declared.point.Point.{Point}
 use Rattle.bounds.specs.Points.{origin, places}
 use Rattle.point_lists.specs.Lists.{point_list}
 use Rattle.fields.specs.declared.number.Layers.{Layers}
 use Rattle.fields.specs.declared.number.Sides.{Sides}
-use Rattle.fields.specs.declared.reference.Part.{Part}
 use Rattle.fields.specs.declared.reference.Reference.{Reference}
 use Rattle.fields.specs.declared.reference.Reference.TheVariants.{Given}
 use Rattle.fields.specs.declared.stroke.Stroke.{Stroke}
@@ -15,10 +13,6 @@ use Rattle.fields.specs.Shapes.{points_or}
 use Rattle.elements.specs.declared.element.Element.{Element}
 use Rattle.elements.specs.declared.element.Element.TheVariants as element
 use Rattle.explicit.specs.Bytes.{layers_bytes, stroke_bytes}
-
--- the part of the file where the text of a string stands, behind its length, which stands at the place `at`
-abbrev pub text_part : (at : ℕ) → List ℕ → Part
-text_part at t = record { place = at + length (shortest (length t)); size = length t }
 
 -- a name or a text by its string, which stands at the place `at`
 abbrev pub text_given : (at : ℕ) → List ℕ → Reference
@@ -53,10 +47,6 @@ path_of l s p qs at =
       at = p;
       repetition = None;
     })
-
--- the bytes of a part of the file
-abbrev pub shown_text : List ℕ → Part → List ℕ
-shown_text file t = between t.place (t.place + t.size) file
 
 -- the vertices of the list at a place, for an element whose first vertex is p
 abbrev pub shown_vertices : List ℕ → (place : ℕ) → (closed : Bool) → Point → List Point

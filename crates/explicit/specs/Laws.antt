@@ -4,6 +4,7 @@ use Rattle.std.specs.List.{AllByRecursion as Every}
 use Rattle.tokens.specs.declared.text.StringRule.TheVariants.{Name, Ascii}
 use Rattle.tokens.specs.Answers.{Answer}
 use Rattle.tokens.specs.Encodings.{byte_values, text_bytes, FitsText, FitsUnit}
+use Rattle.tokens.specs.Parts.{bytes_in, text_part}
 use Rattle.tokens.specs.Readers.{Back}
 use Rattle.bounds.specs.declared.point.Point.{Point}
 use Rattle.bounds.specs.Points.{reach, Near}
@@ -12,7 +13,7 @@ use Rattle.fields.specs.declared.number.Sides.{Sides}
 use Rattle.fields.specs.declared.stroke.Stroke.{Stroke}
 use Rattle.fields.specs.declared.variables.Modals.{Modals}
 use Rattle.fields.specs.Variables.{fresh}
-use Rattle.frames.specs.Ends.{sum_scheme}
+use Rattle.frames.specs.declared.end.End.TheVariants.{Checksum32}
 use Rattle.frames.specs.Laws.{sum_before}
 use Rattle.elements.specs.declared.element.Drawn.{Drawn}
 use Rattle.elements.specs.declared.element.Element.{Element}
@@ -25,7 +26,7 @@ use Rattle.steps.specs.declared.state.Record.TheVariants as content
 use Rattle.steps.specs.declared.state.Step.{Step}
 use Rattle.steps.specs.Steps.{stepped}
 use Rattle.explicit.specs.Bytes.{layers_bytes, stroke_bytes, placement_fields, label_fields, rectangle_fields, polygon_fields, path_fields, start_bytes, end_bytes, cell_bytes, placement_bytes, label_bytes, rectangle_bytes, polygon_bytes, path_bytes}
-use Rattle.explicit.specs.Contents.{text_part, text_given, placement_of, label_of, rectangle_of, polygon_of, path_of, shown_text, shown_vertices}
+use Rattle.explicit.specs.Contents.{text_given, placement_of, label_of, rectangle_of, polygon_of, path_of, shown_vertices}
 use Rattle.explicit.specs.Legal.{FitsLayers, FitsSides, FitsStroke, FitsVertices}
 
 -- where these bytes stand at the place `at`, the answer is this element, and coordinates stay absolute
@@ -151,15 +152,15 @@ abbrev pub EndRead : Type 0
 EndRead =
     (file : List ℕ) (p : Position) → Between p → p.context.late ≡ false → drop p.at file ≡ end_bytes (sum_before file p.at) →
     stepped file p
-    ≡ Ok (step_to p.at 2 (content.End (record { scheme = sum_scheme; signature = sum_before file p.at })) (position (length file) state.Ended false fresh))
+    ≡ Ok (step_to p.at 2 (content.End (Checksum32 (sum_before file p.at))) (position (length file) state.Ended false fresh))
 
 -- where the bytes of a cell, of a placement or of a text stand, the part of the file that is named there is the name or the text
 abbrev pub TextsShown : Type 0
 TextsShown =
     (file rest : List ℕ) (at : ℕ) (t : List ℕ) →
-    (drop at file ≡ cell_bytes t ++ rest → shown_text file (text_part (at + 1) t) ≡ t)
-    × ((a f : ℕ) (q : Point) → drop at file ≡ placement_bytes a f t q ++ rest → shown_text file (text_part (at + 1 + 1) t) ≡ t)
-    × ((l : Layers) (q : Point) → drop at file ≡ label_bytes t l q ++ rest → shown_text file (text_part (at + 1 + 1) t) ≡ t)
+    (drop at file ≡ cell_bytes t ++ rest → bytes_in file (text_part (at + 1) t) ≡ t)
+    × ((a f : ℕ) (q : Point) → drop at file ≡ placement_bytes a f t q ++ rest → bytes_in file (text_part (at + 1 + 1) t) ≡ t)
+    × ((l : Layers) (q : Point) → drop at file ≡ label_bytes t l q ++ rest → bytes_in file (text_part (at + 1 + 1) t) ≡ t)
 
 -- where the bytes of a polygon or of a path stand, the list that is named there gives the vertices again
 abbrev pub VerticesShown : Type 0

@@ -1,5 +1,5 @@
 -- What holds of the value that a reader gives, wherever it stops.
-use Rattle.std.proofs.Common.{◌≡◌, ℕ, Bool, true, false, cond, List, IfOk, Ok, Err, sym, refl, subst}
+use Rattle.std.proofs.Common.{◌≡◌, ℕ, Bool, true, false, cond, List, Ok, Err, sym, refl, subst}
 use Rattle.tokens.specs.declared.fault.Read.{Read}
 use Rattle.tokens.specs.declared.fault.TokenFault.{TokenFault}
 use Rattle.tokens.specs.Answers.{Answer, got, then}
@@ -31,8 +31,3 @@ gives_cond false p q = q refl
 -- of what is made, only what holds of the value
 pub gives_of : {A : Type 0} {file : List ℕ} {least : ℕ} {P : A → Type 0} {r : Answer A} → Made file least r (λ v n. P v) → Gives r P
 gives_of m = record { on = λ x e. (m.on x e).2 }
-
--- what code promises of a result that is such an answer
-pub gives_made : {A : Type 0} {P : A → Type 0} (r : Answer A) {s : Answer A} → r ≡ s → Gives s P → IfOk r (λ x. P x.value)
-gives_made (Ok x) e g = g.on x e
-gives_made (Err d) e g = tt

@@ -1,3 +1,4 @@
 pub mod Gives
 pub mod Boxes
 pub mod Onwards
+pub mod Codes

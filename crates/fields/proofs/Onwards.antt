@@ -8,7 +8,7 @@ use Rattle.tokens.specs.Readers.{Made}
 use Rattle.tokens.proofs.ChainLaws.{unsigned_made}
 use Rattle.tokens.proofs.Deltas.{signed_made}
 use Rattle.tokens.proofs.Mades.{made_got, made_then, made_cond, made_fault, made_less, made_weaken}
-use Rattle.tokens.proofs.Texts.{text_made}
+use Rattle.tokens.proofs.Parts.{part_made}
 use Rattle.bounds.specs.declared.point.Point.{Point}
 use Rattle.bounds.specs.Points.{reach, spot_at, all_within, places}
 use Rattle.point_lists.proofs.Shapes.{summarised_made}
@@ -25,7 +25,7 @@ use Rattle.fields.specs.declared.variables.SideVariables.{SideVariables}
 use Rattle.fields.specs.Anchors.{coordinate, spot, anchor}
 use Rattle.fields.specs.Laws.{Onward}
 use Rattle.fields.specs.Numbers.{inherited, field, measure, has_layer, has_datatype, has_width, has_height, is_square, layers, sides}
-use Rattle.fields.specs.References.{part_at, string_at, number_at, reference}
+use Rattle.fields.specs.References.{string_at, number_at, reference}
 use Rattle.fields.specs.Shapes.{offsets_of, spread_by, copies, outline_at, outline}
 use Rattle.fields.specs.Strokes.{has_half, has_extensions, extension, extensions_by, extensions, stroke}
 
@@ -71,12 +71,9 @@ module _ (file : List ℕ) where
       made_then _ (made_cond (is_square info) (λ _. made_got w n (omega arith) i tt) (λ _. measure_goes n first (has_height info) v.height i))
       (λ y m _ j _. made_got _ m (omega arith) j tt))
 
-  part_goes : (rule : StringRule) (at : ℕ) → Onward file at (part_at rule file at)
-  part_goes rule at = made_then _ (made_less (text_made rule file at)) (λ t n _ i _. made_got _ n (omega arith) i tt)
-
   -- a string
   pub string_goes : (rule : StringRule) (at : ℕ) → Onward file at (string_at rule file at)
-  string_goes rule at = made_then _ (part_goes rule at) (λ p n _ i _. made_got _ n (omega arith) i tt)
+  string_goes rule at = made_then _ (made_less (part_made rule file at)) (λ p n _ i _. made_got _ n (omega arith) i tt)
 
   -- a reference number
   pub number_goes : (at : ℕ) → Onward file at (number_at file at)

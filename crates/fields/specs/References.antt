@@ -1,23 +1,18 @@
 -- Names and texts in records: strings, or reference numbers.
-use Rattle.std.specs.Prelude.{ℕ, ◌-◌, List, length, Option}
+use Rattle.std.specs.Prelude.{ℕ, List, Option}
 use Rattle.tokens.specs.declared.text.StringRule.{StringRule}
 use Rattle.tokens.specs.Answers.{Answer, got, then}
 use Rattle.tokens.specs.Chains.{unsigned}
-use Rattle.tokens.specs.Texts.{text}
+use Rattle.tokens.specs.Parts.{part}
 use Rattle.fields.specs.declared.reference.Form.{Form}
 use Rattle.fields.specs.declared.reference.Form.TheVariants.{Absent, ByString, ByNumber}
-use Rattle.fields.specs.declared.reference.Part.{Part}
 use Rattle.fields.specs.declared.reference.Reference.{Reference}
 use Rattle.fields.specs.declared.reference.Reference.TheVariants.{Given, Number}
 use Rattle.fields.specs.Numbers.{inherited}
 
--- the text of a string, as a part of the file
-abbrev pub part_at : StringRule → List ℕ → ℕ → Answer Part
-part_at rule file at = then (text rule file at) λ t n. got (record { place = n - length t; size = length t }) n
-
 -- a string
 abbrev pub string_at : StringRule → List ℕ → ℕ → Answer Reference
-string_at rule file at = then (part_at rule file at) λ p n. got (Given p) n
+string_at rule file at = then (part rule file at) λ p n. got (Given p) n
 
 -- a reference number
 abbrev pub number_at : List ℕ → ℕ → Answer Reference

@@ -42,6 +42,10 @@ pub record Boxed (ps : List Point) (b : Bounds) : Type 0 where
 abbrev pub spread_by : ℕ → Summary → Spread
 spread_by place s = record { repetition = Some (record { place = place; copies = s.copies }); stored = Some place; bounds = s.bounds }
 
+-- the copies by the repetition at a place
+abbrev pub spread_at : List ℕ → ℕ → Answer Spread
+spread_at file at = then (copies_in_short (repetition file at)) λ s n. got (spread_by at s) n
+
 -- the copies of a record: by a repetition that stands in it, by the one that was used last (type 0), or none but the first
 abbrev pub copies : List ℕ → (at first : ℕ) → (present : Bool) → Option ℕ → Answer Spread
 copies file at first present v =

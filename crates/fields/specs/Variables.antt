@@ -1,8 +1,19 @@
 -- The modal variables.
-use Rattle.std.specs.Prelude.{false, None}
+use Rattle.std.specs.Prelude.{false, Some, None}
 use Rattle.bounds.specs.Points.{origin}
+use Rattle.fields.specs.declared.number.Layers.{Layers}
+use Rattle.fields.specs.declared.number.Sides.{Sides}
 use Rattle.fields.specs.declared.variables.LayerVariables.{LayerVariables}
 use Rattle.fields.specs.declared.variables.Modals.{Modals}
+use Rattle.fields.specs.declared.variables.SideVariables.{SideVariables}
+
+-- a layer and a datatype are stored
+abbrev pub stored_layers : Layers → LayerVariables
+stored_layers l = record { layer = Some l.layer; datatype = Some l.datatype }
+
+-- a width and a height are stored
+abbrev pub stored_sides : Sides → SideVariables
+stored_sides s = record { width = Some s.width; height = Some s.height }
 
 -- no layer and no datatype
 abbrev pub no_layers : LayerVariables

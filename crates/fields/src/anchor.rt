@@ -53,12 +53,11 @@ fn read_coordinate(
             next: at,
         });
     }
-    let given = read_signed(file, at)?;
-    let base = if relative { i128::from(variable) } else { 0 };
-    Ok(Read {
-        value: base + i128::from(given.value),
-        next: given.next,
-    })
+    let given = read_signed(file, at)?.map(i128::from);
+    if relative {
+        return Ok(given.map(|step| i128::from(variable) + step));
+    }
+    Ok(given)
 }
 
 // Both coordinates.
@@ -72,23 +71,14 @@ fn read_spot(
 {
     let x = read_coordinate(file, at, present.x, v.relative, v.at.x)?;
     let y = read_coordinate(file, x.next, present.y, v.relative, v.at.y)?;
-    Ok(Read {
-        value: Spot {
-            x: x.value,
-            y: y.value,
-        },
-        next: y.next,
-    })
+    Ok(y.map(|y| Spot { x: x.value, y }))
 }
 
 // The box around the vertices of an element: of its list, or of its one vertex.
 fn shape_bounds(shape: Option<Outline>) -> Bounds
     ensures { result ≡ shape_bounds shape }
 {
-    match shape {
-        Some(outline) => outline.bounds,
-        None => Bounds::origin(),
-    }
+    shape.map_or_else(Bounds::origin, |outline| outline.bounds)
 }
 
 // The anchor at a place that is in reach.
@@ -124,8 +114,5 @@ pub fn read_anchor(
     if !all_fit(spot.value, spread.value.bounds, shape_bounds(shape)) {
         return refuse(FaultKind::Reach, first);
     }
-    Ok(Read {
-        value: settle(spot.value, spread.value),
-        next: spread.next,
-    })
+    Ok(spread.map(|spread| settle(spot.value, spread)))
 }

@@ -1,11 +1,11 @@
 //! The repetition of a record: present, reused or none.
 
 ghost use Rattle.std.specs.Prelude.{◌≡◌, IfOk};
-ghost use Rattle.fields.specs.Shapes.{spread_by, copies, offsets_of, Boxed};
+ghost use Rattle.fields.specs.Shapes.{spread_at, copies, offsets_of, Boxed};
 
 use crate::number::inherited;
 use bounds::Bounds;
-use repetitions::{Summary, read_repetition};
+use repetitions::read_repetition;
 use tokens::{Read, TokenFault, read_unsigned};
 
 // The type of a repetition that is the one used last.
@@ -28,21 +28,22 @@ pub struct Spread {
 }
 
 // The copies by the repetition that stands at the place `place`.
-fn spread_of(place: usize, summary: Summary) -> Spread
-    ensures { result ≡ spread_by place summary }
+fn read_at(file: &[u8], place: usize) -> Result<Read<Spread>, TokenFault>
+    ensures reads { result ≡ spread_at file.now place }
+    ensures boxed { IfOk result (λ x. Boxed (offsets_of file.now x.value.repetition) x.value.bounds) }
 {
-    Spread {
+    Ok(read_repetition(file, place)?.map(|summary| Spread {
         repetition: Some(Repeated {
             place,
             copies: summary.copies,
         }),
         stored: Some(place),
         bounds: summary.bounds,
-    }
+    }))
 }
 
-// The copies, without what is known of their box.
-fn read_spread(
+/// The copies of the record whose first byte is at `first`, by the repetition at the place `at` if it is present.
+pub fn read_copies(
     file: &[u8],
     at: usize,
     first: usize,
@@ -50,6 +51,7 @@ fn read_spread(
     variable: Option<usize>,
 ) -> Result<Read<Spread>, TokenFault>
     ensures reads { result ≡ copies file.now at first present variable }
+    ensures boxed { IfOk result (λ x. Boxed (offsets_of file.now x.value.repetition) x.value.bounds) }
 {
     if !present {
         return Ok(Read {
@@ -64,29 +66,11 @@ fn read_spread(
     let kind = read_unsigned(file, at)?;
     if kind.value == REUSED {
         let old = inherited(kind.next, first, variable)?;
-        let summary = read_repetition(file, old.value)?;
+        let spread = read_at(file, old.value)?;
         return Ok(Read {
-            value: spread_of(old.value, summary.value),
             next: old.next,
+            ..spread
         });
     }
-    let summary = read_repetition(file, at)?;
-    Ok(Read {
-        value: spread_of(at, summary.value),
-        next: summary.next,
-    })
-}
-
-/// The copies of the record whose first byte is at `first`, by the repetition at the place `at` if it is present.
-pub fn read_copies(
-    file: &[u8],
-    at: usize,
-    first: usize,
-    present: bool,
-    variable: Option<usize>,
-) -> Result<Read<Spread>, TokenFault>
-    ensures reads { result ≡ copies file.now at first present variable }
-    ensures boxed { IfOk result (λ x. Boxed (offsets_of file.now x.value.repetition) x.value.bounds) }
-{
-    read_spread(file, at, first, present, variable)
+    read_at(file, at)
 }

@@ -8,16 +8,20 @@ use crate::variables::{LayerVariables, SideVariables};
 use bounds::REACH;
 use tokens::{FaultKind, Read, TokenFault, has_flag, read_unsigned, refuse};
 
-// The flags of an info byte.
+// The flag of an info byte that announces a layer, or a textlayer.
 const LAYER: u8 = 0x01;
 
+// The flag of an info byte that announces a datatype, or a texttype.
 const DATATYPE: u8 = 0x02;
 
-const HEIGHT: u8 = 0x20;
+/// The flag of a rectangle's info byte that announces a height.
+pub const HEIGHT: u8 = 0x20;
 
+// The flag of a rectangle's info byte that announces a width.
 const WIDTH: u8 = 0x40;
 
-const SQUARE: u8 = 0x80;
+/// The flag of a rectangle's info byte that says that it is a square.
+pub const SQUARE: u8 = 0x80;
 
 /// A layer and a datatype.
 #[derive(Clone, Copy)]
@@ -41,13 +45,16 @@ pub fn inherited<T: Copy>(
 ) -> Result<Read<T>, TokenFault>
     ensures takes { result ≡ inherited_value at first variable }
 {
-    match variable {
-        Some(value) => Ok(Read { value, next: at }),
-        None => refuse(FaultKind::Undefined, first),
-    }
+    variable
+        .map(|value| Read { value, next: at })
+        .ok_or(TokenFault {
+            kind: FaultKind::Undefined,
+            place: first,
+        })
 }
 
 /// A number that is present at the place `at`, or inherited.
+// Readers keep `present` beside the variable: each may stand without the other, some need both, and what they read differs.
 pub fn read_field(
     file: &[u8],
     at: usize,
@@ -99,13 +106,10 @@ pub fn read_layers(
         has_flag(info, DATATYPE),
         v.datatype,
     )?;
-    Ok(Read {
-        value: Layers {
-            layer: layer.value,
-            datatype: datatype.value,
-        },
-        next: datatype.next,
-    })
+    Ok(datatype.map(|datatype| Layers {
+        layer: layer.value,
+        datatype,
+    }))
 }
 
 /// The width and the height of a rectangle. A square has only a width.
@@ -120,20 +124,14 @@ pub fn read_sides(
 {
     let width = read_measure(file, at, first, has_flag(info, WIDTH), v.width)?;
     if has_flag(info, SQUARE) {
-        return Ok(Read {
-            value: Sides {
-                width: width.value,
-                height: width.value,
-            },
-            next: width.next,
-        });
+        return Ok(width.map(|width| Sides {
+            width,
+            height: width,
+        }));
     }
     let height = read_measure(file, width.next, first, has_flag(info, HEIGHT), v.height)?;
-    Ok(Read {
-        value: Sides {
-            width: width.value,
-            height: height.value,
-        },
-        next: height.next,
-    })
+    Ok(height.map(|height| Sides {
+        width: width.value,
+        height,
+    }))
 }

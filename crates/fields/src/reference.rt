@@ -1,19 +1,10 @@
 //! Names and texts in records: a string, or the reference number of a name record.
 
 ghost use Rattle.std.specs.Prelude.{◌≡◌};
-ghost use Rattle.fields.specs.References.{part_at, number_at, string_at, reference};
+ghost use Rattle.fields.specs.References.{number_at, string_at, reference};
 
 use crate::number::inherited;
-use tokens::{Read, StringRule, TokenFault, read_string, read_unsigned};
-
-/// A part of the file.
-#[derive(Clone, Copy)]
-pub struct Part {
-    /// The place of its first byte.
-    pub place: usize,
-    /// How many bytes it has.
-    pub size: usize,
-}
+use tokens::{Part, Read, StringRule, TokenFault, read_part, read_unsigned};
 
 /// A reference number, and the place where it stands.
 #[derive(Clone, Copy)]
@@ -37,33 +28,12 @@ pub enum Form {
     ByNumber,
 }
 
-// The string at the place `at`: where its text stands.
-fn read_part(file: &[u8], at: usize, rule: StringRule) -> Result<Read<Part>, TokenFault>
-    ensures reads { result ≡ part_at rule file.now at }
-{
-    let text = read_string(file, at, rule)?;
-    let size = text.value.len();
-    Ok(Read {
-        value: Part {
-            place: text.next - size,
-            size,
-        },
-        next: text.next,
-    })
-}
-
 /// The reference number at the place `at`.
 pub fn read_reference_number(file: &[u8], at: usize) -> Result<Read<Reference>, TokenFault>
     ensures reads { result ≡ number_at file.now at }
 {
     let number = read_unsigned(file, at)?;
-    Ok(Read {
-        value: Reference::Number(ReferenceNumber {
-            number: number.value,
-            place: at,
-        }),
-        next: number.next,
-    })
+    Ok(number.map(|number| Reference::Number(ReferenceNumber { number, place: at })))
 }
 
 /// The string at the place `at`.
@@ -74,11 +44,7 @@ pub fn read_reference_string(
 ) -> Result<Read<Reference>, TokenFault>
     ensures reads { result ≡ string_at rule file.now at }
 {
-    let part = read_part(file, at, rule)?;
-    Ok(Read {
-        value: Reference::Given(part.value),
-        next: part.next,
-    })
+    Ok(read_part(file, at, rule)?.map(Reference::Given))
 }
 
 /// A name or a text that is present at the place `at`, by its number or as a string of the rule, or inherited.

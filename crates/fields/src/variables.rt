@@ -1,8 +1,9 @@
 //! The modal variables: what a record inherits from those before it. A variable is undefined (`None`) after a reset.
 
 ghost use Rattle.std.specs.Prelude.{◌≡◌};
-ghost use Rattle.fields.specs.Variables.{fresh};
+ghost use Rattle.fields.specs.Variables.{stored_layers, stored_sides, fresh};
 
+use crate::number::{Layers, Sides};
 use crate::reference::Reference;
 use bounds::Point;
 
@@ -14,10 +15,21 @@ pub struct PlacementVariables {
 }
 
 /// A layer and a datatype, or a textlayer and a texttype.
-#[derive(Clone, Copy)]
+#[derive(Clone, Copy, Default)]
 pub struct LayerVariables {
     pub layer: Option<u64>,
     pub datatype: Option<u64>,
+}
+
+impl From<Layers> for LayerVariables {
+    ghost from_gives = { λ l v. v ≡ stored_layers l };
+
+    fn from(layers: Layers) -> Self {
+        LayerVariables {
+            layer: Some(layers.layer),
+            datatype: Some(layers.datatype),
+        }
+    }
 }
 
 /// The variables of texts.
@@ -36,14 +48,25 @@ pub struct FigureVariables {
 }
 
 /// The width and the height of rectangles.
-#[derive(Clone, Copy)]
+#[derive(Clone, Copy, Default)]
 pub struct SideVariables {
     pub width: Option<u64>,
     pub height: Option<u64>,
 }
 
+impl From<Sides> for SideVariables {
+    ghost from_gives = { λ s v. v ≡ stored_sides s };
+
+    fn from(sides: Sides) -> Self {
+        SideVariables {
+            width: Some(sides.width),
+            height: Some(sides.height),
+        }
+    }
+}
+
 /// The variables of paths: the half-width, both extensions, and the place of the point list.
-#[derive(Clone, Copy)]
+#[derive(Clone, Copy, Default)]
 pub struct PathVariables {
     pub half: Option<u64>,
     pub start: Option<i64>,
@@ -68,11 +91,6 @@ pub struct Modals {
 
 const ORIGIN: Point = Point { x: 0, y: 0 };
 
-const NO_LAYERS: LayerVariables = LayerVariables {
-    layer: None,
-    datatype: None,
-};
-
 impl Modals {
     /// The variables after a reset: positions at the origin, absolute coordinates, and all else undefined.
     pub fn reset() -> Modals
@@ -88,23 +106,15 @@ impl Modals {
             text: TextVariables {
                 at: ORIGIN,
                 text: None,
-                layers: NO_LAYERS,
+                layers: LayerVariables::default(),
             },
             figure: FigureVariables {
                 at: ORIGIN,
-                layers: NO_LAYERS,
+                layers: LayerVariables::default(),
             },
-            sides: SideVariables {
-                width: None,
-                height: None,
-            },
+            sides: SideVariables::default(),
             polygon: None,
-            path: PathVariables {
-                half: None,
-                start: None,
-                end: None,
-                list: None,
-            },
+            path: PathVariables::default(),
         }
     }
 }

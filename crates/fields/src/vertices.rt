@@ -21,39 +21,14 @@ pub struct Outline {
 // The list at the place `place`.
 fn read_at(file: &[u8], place: usize, closed: bool) -> Result<Read<Outline>, TokenFault>
     ensures reads { result ≡ outline_at file.now place closed }
+    ensures boxed { IfOk result (λ x. Boxed (vertices_of file.now x.value) x.value.bounds) }
 {
-    let list = read_list(file, place, closed)?;
-    Ok(Read {
-        value: Outline {
-            place,
-            closed,
-            vertices: list.value.vertices,
-            bounds: list.value.bounds,
-        },
-        next: list.next,
-    })
-}
-
-// The list, without what is known of its box.
-fn read_shape(
-    file: &[u8],
-    at: usize,
-    first: usize,
-    closed: bool,
-    present: bool,
-    variable: Option<usize>,
-) -> Result<Read<Outline>, TokenFault>
-    ensures reads { result ≡ outline file.now at first closed present variable }
-{
-    if present {
-        return read_at(file, at, closed);
-    }
-    let old = inherited(at, first, variable)?;
-    let list = read_at(file, old.value, closed)?;
-    Ok(Read {
-        value: list.value,
-        next: old.next,
-    })
+    Ok(read_list(file, place, closed)?.map(|list| Outline {
+        place,
+        closed,
+        vertices: list.vertices,
+        bounds: list.bounds,
+    }))
 }
 
 /// The point list at the place `at`, of a polygon if `closed`, else of a path; where it is not present, the one that was used
@@ -69,5 +44,13 @@ pub fn read_outline(
     ensures reads { result ≡ outline file.now at first closed present variable }
     ensures boxed { IfOk result (λ x. Boxed (vertices_of file.now x.value) x.value.bounds) }
 {
-    read_shape(file, at, first, closed, present, variable)
+    if present {
+        return read_at(file, at, closed);
+    }
+    let old = inherited(at, first, variable)?;
+    let list = read_at(file, old.value, closed)?;
+    Ok(Read {
+        next: old.next,
+        ..list
+    })
 }

@@ -7,7 +7,9 @@ use Rattle.tokens.specs.Encodings.{shortest, text_bytes}
 use Rattle.tokens.specs.Readers.{Back}
 use Rattle.tokens.proofs.Backs.{after, left, back_then, back_last, back_none}
 use Rattle.tokens.proofs.Encodings.{small_back, text_back, unit_back}
-use Rattle.frames.specs.Ends.{first_record, sum_scheme, low_first}
+use Rattle.frames.specs.declared.end.End.TheVariants.{Checksum32}
+use Rattle.checksum.specs.Ends.{low_first}
+use Rattle.frames.specs.Ends.{first_record, sum_scheme}
 use Rattle.frames.specs.Laws.{StartBack, four_bytes, sum_before, EndBack}
 use Rattle.frames.specs.Starts.{version, version_at, start}
 use Rattle.frames.specs.Tables.{switch, table, table_count, tables}
@@ -72,7 +74,7 @@ end_back file first e =
     let g : drop s file ≡ four_bytes v = after file q (sum_scheme ∷ []) (four_bytes v) f in
     let n = left file p (text_bytes pad) (sum_scheme ∷ four_bytes v) e in
     let m : s ≡ first + 252 = omega arith in
-    ends_read file p first false (record { scheme = sum_scheme; signature = v })
+    ends_read file p first false (Checksum32 v)
     (record {
       padding = p;
       scheme = q;

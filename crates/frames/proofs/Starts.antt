@@ -10,7 +10,7 @@ use Rattle.tokens.specs.Chains.{largest}
 use Rattle.tokens.specs.Readers.{Made, Local}
 use Rattle.tokens.specs.Texts.{text}
 use Rattle.tokens.specs.Units.{unit}
-use Rattle.tokens.proofs.Chaining.{going, same_got}
+use Rattle.tokens.proofs.Chaining.{going, same_got, passed}
 use Rattle.tokens.proofs.Locals.{local_then, local_got, local_fault, local_cond, text_local, unit_local}
 use Rattle.tokens.proofs.Mades.{made_got, made_fault, made_then, made_cond, made_less, made_by}
 use Rattle.tokens.proofs.Texts.{text_made}
@@ -19,7 +19,7 @@ use Rattle.frames.specs.declared.start.Start.{Start}
 use Rattle.frames.specs.Laws.{bit, TabledWhere, StartMade, StartLocal, Starts, StartExactly}
 use Rattle.frames.specs.Starts.{version, version_at, start}
 use Rattle.frames.specs.Tables.{switch, tables_where}
-use Rattle.frames.proofs.Parts.{parted, passed}
+use Rattle.frames.proofs.Parts.{parted}
 use Rattle.frames.proofs.Tables.{switch_made, where_made, switch_local, where_local, switch_parts, switch_from, where_stand, stand_where}
 
 -- the version takes at least one byte

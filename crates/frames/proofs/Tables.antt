@@ -8,12 +8,12 @@ use Rattle.tokens.specs.Answers.{got, fault, then}
 use Rattle.tokens.specs.Chains.{unsigned}
 use Rattle.tokens.specs.Readers.{Made, Local}
 use Rattle.tokens.proofs.ChainLaws.{unsigned_made}
-use Rattle.tokens.proofs.Chaining.{going, same_got}
+use Rattle.tokens.proofs.Chaining.{going, same_got, passed}
 use Rattle.tokens.proofs.Locals.{local_then, local_got, local_fault, local_cond, unsigned_local}
 use Rattle.tokens.proofs.Mades.{made_got, made_fault, made_then, made_cond, made_less}
 use Rattle.frames.specs.Laws.{bit, Tabled, none, more, TabledWhere}
 use Rattle.frames.specs.Tables.{switch, table, table_count, tables, tables_where}
-use Rattle.frames.proofs.Parts.{parted, passed}
+use Rattle.frames.proofs.Parts.{parted}
 
 -- a switch takes at least one byte
 pub switch_made : (file : List ℕ) (at : ℕ) → Made file (suc at) (switch file at) (λ b n. Unit {0})

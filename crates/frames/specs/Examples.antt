@@ -4,6 +4,7 @@ use Rattle.std.specs.List.{AllByRecursion as Every}
 use Rattle.tokens.specs.declared.fault.FaultKind.TheVariants.{Cut, Version, Reserved, BadType, BadEnd, Checksum}
 use Rattle.tokens.specs.Answers.{Answer, got, fault}
 use Rattle.frames.specs.declared.end.End.{End}
+use Rattle.frames.specs.declared.end.End.TheVariants.{Unsigned, Crc32, Checksum32}
 use Rattle.frames.specs.declared.start.Start.{Start}
 use Rattle.frames.specs.Ends.{first_record, end}
 use Rattle.frames.specs.Laws.{end_bytes}
@@ -42,17 +43,17 @@ table =
     ∷ a_start (0x03 ∷ 0x31 ∷ 0x2e ∷ 0x31 ∷ []) (fault Version 0)
     ∷ a_start (0x04 ∷ 0x31 ∷ 0x2e ∷ 0x30 ∷ 0x30 ∷ []) (fault Version 0)
     ∷ a_start (0x03 ∷ 0x31 ∷ 0x2e ∷ []) (fault Cut 0)
-    ∷ an_end false (closing (0xfd ∷ 0x00 ∷ 0x00 ∷ 0x00 ∷ [])) (got (record { scheme = 2; signature = 253 }) 269)
+    ∷ an_end false (closing (0xfd ∷ 0x00 ∷ 0x00 ∷ 0x00 ∷ [])) (got (Checksum32 253) 269)
     ∷ an_end false (closing (0xfe ∷ 0x00 ∷ 0x00 ∷ 0x00 ∷ [])) (fault Checksum 265)
     ∷ an_end false (closing (0x00 ∷ 0x00 ∷ 0x00 ∷ 0xfd ∷ [])) (fault Checksum 265)
     ∷ an_end false (closing (0xfd ∷ 0x00 ∷ 0x00 ∷ 0x00 ∷ 0x00 ∷ [])) (fault BadEnd 13)
     ∷ an_end false (closing (0xfe ∷ 0x00 ∷ 0x00 ∷ 0x00 ∷ 0x00 ∷ [])) (fault BadEnd 13)
     ∷ an_end false (closing (0xfd ∷ 0x00 ∷ 0x00 ∷ [])) (fault Cut 265)
-    ∷ an_end false (filled (0x01 ∷ 0x01 ∷ 0x02 ∷ 0x03 ∷ 0x04 ∷ [])) (got (record { scheme = 1; signature = 0x04030201 }) 269)
+    ∷ an_end false (filled (0x01 ∷ 0x01 ∷ 0x02 ∷ 0x03 ∷ 0x04 ∷ [])) (got (Crc32 0x04030201) 269)
     ∷ an_end false (filled (0x03 ∷ 0x00 ∷ 0x00 ∷ 0x00 ∷ 0x00 ∷ [])) (fault BadType 264)
     ∷ an_end false (filled (0x00 ∷ [])) (fault BadEnd 13)
-    ∷ an_end false (0x02 ∷ 0xfc ∷ 0x01 ∷ (replicate 252 0x00 ++ (0x00 ∷ []))) (got (record { scheme = 0; signature = 0 }) 269)
-    ∷ an_end true (0x02 ∷ (replicate 12 0x00 ++ (0xec ∷ 0x01 ∷ (replicate 236 0x00 ++ (0x02 ∷ 0xf1 ∷ 0x00 ∷ 0x00 ∷ 0x00 ∷ []))))) (got (record { scheme = 2; signature = 241 }) 269)
+    ∷ an_end false (0x02 ∷ 0xfc ∷ 0x01 ∷ (replicate 252 0x00 ++ (0x00 ∷ []))) (got Unsigned 269)
+    ∷ an_end true (0x02 ∷ (replicate 12 0x00 ++ (0xec ∷ 0x01 ∷ (replicate 236 0x00 ++ (0x02 ∷ 0xf1 ∷ 0x00 ∷ 0x00 ∷ 0x00 ∷ []))))) (got (Checksum32 241) 269)
     ∷ []
 
 -- every one of them holds

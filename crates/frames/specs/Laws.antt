@@ -11,10 +11,12 @@ use Rattle.tokens.specs.Readers.{Made, Back, Local}
 use Rattle.tokens.specs.Texts.{text}
 use Rattle.tokens.specs.Units.{unit}
 use Rattle.frames.specs.declared.end.End.{End}
+use Rattle.frames.specs.declared.end.End.TheVariants.{Checksum32}
 use Rattle.frames.specs.declared.start.Start.{Start}
 use Rattle.frames.specs.Tables.{table_count}
 use Rattle.frames.specs.Starts.{version, start}
-use Rattle.frames.specs.Ends.{first_record, end_size, sum_scheme, last_scheme, signature_size, low_first, end}
+use Rattle.checksum.specs.Ends.{low_first}
+use Rattle.frames.specs.Ends.{first_record, end_size, sum_scheme, last_scheme, signature_size, scheme_of, signature_of, end}
 
 -- the number of a switch
 abbrev pub bit : Bool → ℕ
@@ -70,8 +72,8 @@ pub record Sealed (file : List ℕ) : Type 0 where
 pub record Closes (file : List ℕ) (first : ℕ) (e : End) (n : ℕ) : Type 0 where
   pub last : n ≡ length file
   pub size : n ≡ first + end_size
-  pub known : e.scheme ≤ last_scheme
-  pub sealed : e.scheme ≡ sum_scheme → Sealed file
+  pub known : scheme_of e ≤ last_scheme
+  pub sealed : scheme_of e ≡ sum_scheme → Sealed file
 
 -- END takes at least one byte and ends the file, is of 256 bytes, and tells of a checksum only where that is the file's
 abbrev pub EndMade : Type 0
@@ -86,12 +88,12 @@ pub record Ends (file : List ℕ) (at first : ℕ) (late : Bool) (e : End) : Typ
   pub tabled : TabledWhere late file at padding
   pub filler : List ℕ
   pub padded : text Binary file padding ≡ got filler scheme
-  pub told : unsigned file scheme ≡ got e.scheme signature
-  pub known : e.scheme ≤ last_scheme
-  pub last : length file ≡ signature + signature_size e.scheme
+  pub told : unsigned file scheme ≡ got (scheme_of e) signature
+  pub known : scheme_of e ≤ last_scheme
+  pub last : length file ≡ signature + signature_size (scheme_of e)
   pub size : length file ≡ first + end_size
-  pub stored : e.signature ≡ low_first (drop signature file)
-  pub sum : e.scheme ≡ sum_scheme → e.signature ≡ checksum_of (between first_record signature file)
+  pub stored : signature_of e ≡ low_first (drop signature file)
+  pub sum : scheme_of e ≡ sum_scheme → signature_of e ≡ checksum_of (between first_record signature file)
 
 -- END is read exactly where one stands
 abbrev pub EndExactly : Type 0
@@ -113,4 +115,4 @@ sum_before file first = checksum_of (between first_record (first + 252) file)
 abbrev pub EndBack : Type 0
 EndBack =
     (file : List ℕ) (first : ℕ) → drop (first + 1) file ≡ end_bytes ++ four_bytes (sum_before file first) →
-    end file (first + 1) first false ≡ got (record { scheme = sum_scheme; signature = sum_before file first }) (length file)
+    end file (first + 1) first false ≡ got (Checksum32 (sum_before file first)) (length file)

@@ -14,6 +14,7 @@ const TABLES: usize = 6;
 const ON: u64 = 1;
 
 /// The switch at the place `at`: 0 for off, or 1 for on.
+#[tactic(auto, unfolding(crate::specs::Tables::switch))]
 pub fn read_switch(file: &[u8], at: usize) -> Result<Read<bool>, TokenFault>
     ensures { result ≡ switch file.now at }
 {
@@ -21,32 +22,26 @@ pub fn read_switch(file: &[u8], at: usize) -> Result<Read<bool>, TokenFault>
     if flag.value > ON {
         return refuse(FaultKind::Reserved, at);
     }
-    Ok(Read {
-        value: flag.value == ON,
-        next: flag.next,
-    })
+    Ok(flag.map(|value| value == ON))
 }
 
 // The switch and the offset of one table, of which nothing is kept.
+#[tactic(auto, unfolding(crate::specs::Tables::table))]
 fn read_table(file: &[u8], at: usize) -> Result<Read<()>, TokenFault>
     ensures { result ≡ table file.now at }
 {
     let strict = read_switch(file, at)?;
-    let offset = read_unsigned(file, strict.next)?;
-    Ok(Read {
-        value: (),
-        next: offset.next,
-    })
+    Ok(read_unsigned(file, strict.next)?.map(|_offset| ()))
 }
 
 // All table offsets from the place `at`.
+#[tactic(auto, using(crate::proofs::Tables::tables_more, crate::proofs::Tables::tables_stop, crate::proofs::Tables::tables_none))]
 fn read_all_tables(file: &[u8], at: usize) -> Result<Read<()>, TokenFault>
     ensures { result ≡ tables table_count file.now at }
 {
     let mut place = at;
     for _i in 0..TABLES {
-        let table = read_table(file, place)?;
-        place = table.next;
+        place = read_table(file, place)?.next;
     }
     Ok(Read {
         value: (),
@@ -54,7 +49,8 @@ fn read_all_tables(file: &[u8], at: usize) -> Result<Read<()>, TokenFault>
     })
 }
 
-/// The table offsets from the place `at`, or nothing where they do not stand here.
+/// The table offsets from the place `at`, or nothing where they do not stand here. A flag and no closure: START and END both have
+/// it from START's switch.
 pub fn read_tables(file: &[u8], at: usize, here: bool) -> Result<Read<()>, TokenFault>
     ensures { result ≡ tables_where here file.now at }
 {

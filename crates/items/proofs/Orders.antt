@@ -1,5 +1,5 @@
 -- Items are in sequence exactly where no stage refuses one.
-use Rattle.std.proofs.Common.{◌≡◌, ℕ, true, false, ◌⊎◌, List, [], ◌∷◌, ◌++◌, is_some, Some, None, Decides, fold, Option, sym, refl, ap, ◌∙◌, subst, inl, inr, arith}
+use Rattle.std.proofs.Common.{◌≡◌, true, false, ◌⊎◌, List, [], ◌∷◌, ◌++◌, is_some, Some, None, Decides, fold, Option, sym, refl, ap, ◌∙◌, subst, inl, inr}
 use Rattle.std.proofs.lemmas.List.{append-nil, append_assoc}
 use Rattle.std.proofs.lemmas.List.Sums.{fold_push}
 use Rattle.items.specs.declared.stage.Stage.{Stage}
@@ -14,10 +14,6 @@ AtStage Before b = b ≡ []
 AtStage Top b = (b ≡ [] → ⊥) × (Seen ending b → ⊥) × (Seen naming b → ⊥)
 AtStage Cell b = (b ≡ [] → ⊥) × (Seen ending b → ⊥) × Seen naming b
 AtStage Ended b = Seen ending b × Ends b
-
--- what `cc` finds where two constructors would be one
-clash : {X : Type 0} → ◌≡◌ {A = ℕ} 0 1 → X
-clash z = absurd (omega arith)
 
 -- an item that was there, or is the last, and no other
 seen_old : (k : Kind) (b : List Thing) (t : Thing) → Seen k b → Seen k (b ++ t ∷ [])
@@ -39,42 +35,39 @@ unseen_push : (k : Kind) (b : List Thing) (t : Thing) → (Seen k b → ⊥) →
 unseen_push k b t u v s = elim (seen_push k b t s) [ inl o ↦ u o | inr e ↦ v e ]
 
 some_push : (b : List Thing) (t : Thing) → b ++ t ∷ [] ≡ [] → ⊥
-some_push [] t e = clash (cc)
-some_push (x ∷ b) t e = clash (cc)
+some_push [] t e = cc
+some_push (x ∷ b) t e = cc
 
 unseen_none : (k : Kind) (b : List Thing) → b ≡ [] → Seen k b → ⊥
 unseen_none k b e s = subst (Seen k) e s
 
 -- the only item of its kind
 end_is : (t : Thing) → kind_of t ≡ ending → t ≡ an_end
-end_is (a_start u) e = clash (cc)
-end_is (a_cell n) e = clash (cc)
-end_is (a_placement n p a f) e = clash (cc)
-end_is (a_text l t p s) e = clash (cc)
-end_is (a_rectangle l d w h p) e = clash (cc)
-end_is (a_polygon l d vs) e = clash (cc)
-end_is (a_path l d h s f vs) e = clash (cc)
+end_is (a_start u) e = cc
+end_is (a_cell n) e = cc
+end_is (a_placement n p a f) e = cc
+end_is (a_text l t p s) e = cc
+end_is (a_rectangle l d w h p) e = cc
+end_is (a_polygon l d vs) e = cc
+end_is (a_path l d h s f vs) e = cc
 end_is an_end e = refl
-
-none_some : {X : Type 0} {s : Stage} → None ≡ Some s → X
-none_some e = clash (cc)
 
 -- what holds after an item
 module _ (b : List Thing) (t : Thing) where
   after_starting : kind_of t ≡ starting → b ≡ [] → AtStage Top (b ++ t ∷ [])
   after_starting e n = (
     some_push b t,
-    unseen_push ending b t (unseen_none ending b n) (λ f. clash (cc)),
-    unseen_push naming b t (unseen_none naming b n) (λ f. clash (cc)),
+    unseen_push ending b t (unseen_none ending b n) (λ f. cc),
+    unseen_push naming b t (unseen_none naming b n) (λ f. cc),
   )
 
   after_naming : kind_of t ≡ naming → (Seen ending b → ⊥) → AtStage Cell (b ++ t ∷ [])
   after_naming e u =
-      (some_push b t, unseen_push ending b t u (λ f. clash (cc)), seen_new naming b t e)
+      (some_push b t, unseen_push ending b t u (λ f. cc), seen_new naming b t e)
 
   after_element : kind_of t ≡ element → (Seen ending b → ⊥) → Seen naming b → AtStage Cell (b ++ t ∷ [])
   after_element e u s =
-      (some_push b t, unseen_push ending b t u (λ f. clash (cc)), seen_old naming b t s)
+      (some_push b t, unseen_push ending b t u (λ f. cc), seen_old naming b t s)
 
   after_ending : kind_of t ≡ ending → AtStage Ended (b ++ t ∷ [])
   after_ending e = (seen_new ending b t e, (b, ap (λ x. b ++ (x ∷ [])) (end_is t e)))
@@ -87,51 +80,51 @@ module _ (b : List Thing) (t : Thing) where
   came : (s : Stage) (k : Kind) (s' : Stage) → kind_of t ≡ k → AtStage s b → next s k ≡ Some s' → InPlace b t × AtStage s' (b ++ t ∷ [])
   came Before starting s' e a n =
       let q : Top ≡ s' = cc in (
-        record { first = λ _. e; once = λ _. a; inside = λ f. clash (cc); unended = unseen_none ending b a },
+        record { first = λ _. e; once = λ _. a; inside = λ f. cc; unended = unseen_none ending b a },
         subst (λ x. AtStage x (b ++ t ∷ [])) q (after_starting e a),
       )
-  came Before naming s' e a n = none_some n
-  came Before element s' e a n = none_some n
-  came Before ending s' e a n = none_some n
-  came Top starting s' e a n = none_some n
+  came Before naming s' e a n = cc
+  came Before element s' e a n = cc
+  came Before ending s' e a n = cc
+  came Top starting s' e a n = cc
   came Top naming s' e a n =
       let q : Cell ≡ s' = cc in (
-        placed a.0 (λ f. clash (cc)) (λ f. clash (cc)) a.1,
+        placed a.0 (λ f. cc) (λ f. cc) a.1,
         subst (λ x. AtStage x (b ++ t ∷ [])) q (after_naming e a.1),
       )
-  came Top element s' e a n = none_some n
+  came Top element s' e a n = cc
   came Top ending s' e a n =
       let q : Ended ≡ s' = cc in (
-        placed a.0 (λ f. clash (cc)) (λ f. clash (cc)) a.1,
+        placed a.0 (λ f. cc) (λ f. cc) a.1,
         subst (λ x. AtStage x (b ++ t ∷ [])) q (after_ending e),
       )
-  came Cell starting s' e a n = none_some n
+  came Cell starting s' e a n = cc
   came Cell naming s' e a n =
       let q : Cell ≡ s' = cc in (
-        placed a.0 (λ f. clash (cc)) (λ f. clash (cc)) a.1,
+        placed a.0 (λ f. cc) (λ f. cc) a.1,
         subst (λ x. AtStage x (b ++ t ∷ [])) q (after_naming e a.1),
       )
   came Cell element s' e a n =
       let q : Cell ≡ s' = cc in (
-        placed a.0 (λ f. clash (cc)) (λ f. a.2) a.1,
+        placed a.0 (λ f. cc) (λ f. a.2) a.1,
         subst (λ x. AtStage x (b ++ t ∷ [])) q (after_element e a.1 a.2),
       )
   came Cell ending s' e a n =
       let q : Ended ≡ s' = cc in (
-        placed a.0 (λ f. clash (cc)) (λ f. clash (cc)) a.1,
+        placed a.0 (λ f. cc) (λ f. cc) a.1,
         subst (λ x. AtStage x (b ++ t ∷ [])) q (after_ending e),
       )
-  came Ended starting s' e a n = none_some n
-  came Ended naming s' e a n = none_some n
-  came Ended element s' e a n = none_some n
-  came Ended ending s' e a n = none_some n
+  came Ended starting s' e a n = cc
+  came Ended naming s' e a n = cc
+  came Ended element s' e a n = cc
+  came Ended ending s' e a n = cc
 
   -- and an item in its place is let come
   comes : (s : Stage) (k : Kind) → kind_of t ≡ k → AtStage s b → InPlace b t → (s' : Stage) × (next s k ≡ Some s')
   comes Before starting e a i = (Top, refl)
-  comes Before naming e a i = let f = i.first a in clash (cc)
-  comes Before element e a i = let f = i.first a in clash (cc)
-  comes Before ending e a i = let f = i.first a in clash (cc)
+  comes Before naming e a i = let f = i.first a in cc
+  comes Before element e a i = let f = i.first a in cc
+  comes Before ending e a i = let f = i.first a in cc
   comes Top starting e a i = absurd (a.0 (i.once e))
   comes Top naming e a i = (Cell, refl)
   comes Top element e a i = absurd (a.2 (i.inside e))
@@ -155,8 +148,8 @@ abbrev GoOn : List Thing → List Thing → Type 0
 GoOn b ts = (before : List Thing) (t : Thing) (after : List Thing) → ts ≡ before ++ (t ∷ after) → InPlace (b ++ before) t
 
 none_cons : {X : Type 0} (before : List Thing) (t : Thing) (after : List Thing) → [] ≡ before ++ (t ∷ after) → X
-none_cons [] t after e = clash (cc)
-none_cons (x ∷ before) t after e = clash (cc)
+none_cons [] t after e = cc
+none_cons (x ∷ before) t after e = cc
 
 -- one item, and then the others
 go_on : (b : List Thing) (t : Thing) (ts : List Thing) → InPlace b t → GoOn (b ++ t ∷ []) ts → GoOn b (t ∷ ts)
@@ -182,7 +175,7 @@ cases_stage (Some s) = inl (s, refl)
 never : {X : Type 0} (ts : List Thing) → is_some (fold onward None ts) ≡ true → X
 never ts e =
     let f : is_some (fold onward None ts) ≡ false = ap is_some (refused ts) in
-    clash (cc)
+    cc
 
 -- where no stage refuses an item, all are in their places
 all_in : (s : Stage) (b ts : List Thing) → AtStage s b → is_some (fold onward (Some s) ts) ≡ true → GoOn b ts
@@ -213,7 +206,7 @@ arrived s b (t ∷ ts) s' a e =
       | inl r ↦
           let c = came b t s (kind_of t) r.0 refl a r.1 in
           subst (AtStage s') (append_assoc b (t ∷ []) ts) (arrived r.0 (b ++ t ∷ []) ts s' c.1 (subst (λ o. fold onward o ts ≡ Some s') r.1 e))
-      | inr r ↦ none_some (sym (refused ts) ∙ subst (λ o. fold onward o ts ≡ Some s') r e)
+      | inr r ↦ let n = sym (refused ts) ∙ subst (λ o. fold onward o ts ≡ Some s') r e in cc
     ]
 
 -- the law of stages
@@ -249,18 +242,18 @@ pub beginning : (ts : List Thing) → Decides (is_some (stage_at ts)) (Beginning
 beginning ts = (
   λ e. elim (cases_stage (stage_at ts)) [
     | inl r ↦ completed ts r.0 r.1 (arrived Before [] ts r.0 refl r.1)
-    | inr r ↦ let f : is_some (stage_at ts) ≡ false = ap is_some r in clash (cc)
+    | inr r ↦ let f : is_some (stage_at ts) ≡ false = ap is_some r in cc
   ],
   λ w. (in_sequence ts).1 (front_of ts w.0 w.1.order),
 )
 
 -- a stage before an end
 end-next : (o : Option Stage) → is_some (onward o an_end) ≡ true → onward o an_end ≡ Some Ended
-end-next None e = clash (cc)
-end-next (Some Before) e = clash (cc)
+end-next None e = cc
+end-next (Some Before) e = cc
 end-next (Some Top) e = refl
 end-next (Some Cell) e = refl
-end-next (Some Ended) e = clash (cc)
+end-next (Some Ended) e = cc
 
 -- the law of whole sequences
 pub whole : (ts : List Thing) → Exactly (stage_at ts ≡ Some Ended) (Whole ts)

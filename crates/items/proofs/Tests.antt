@@ -1,7 +1,7 @@
 -- The tests of items tell whether a file can give them.
-use Rattle.std.proofs.Common.{◌≡◌, ℕ, ◌+◌, ◌<◌, ◌≤◌, true, ◌&&◌, leb, List, length, get_or, drop, nat_abs, Decides, refl}
-use Rattle.std.specs.List.{AllByRecursion as Every}
-use Rattle.std.proofs.lemmas.List.{at_drop_more, at_drop_all}
+use Rattle.std.proofs.Common.{◌≡◌, ℕ, ◌+◌, ◌≤◌, ◌&&◌, leb, List, length, nat_abs, Decides, refl}
+use Rattle.std.specs.List.{AllByRecursion as Every, list_all}
+use Rattle.std.proofs.lemmas.List.Recursion.{same_from_clauses}
 use Rattle.std.proofs.lemmas.Bool.{leb-true, le-leb}
 use Rattle.std.proofs.lemmas.Bool.Decides.{Decides-and, Decides-like}
 use Rattle.std.proofs.ByRecursion.{Decides-by_and}
@@ -14,13 +14,9 @@ use Rattle.bounds.proofs.Fitting.{within_near, near_within, all_within_lem}
 use Rattle.items.specs.Things.{Thing, a_start, a_cell, a_placement, a_text, a_rectangle, a_polygon, a_path, an_end}
 use Rattle.items.specs.Validity.{in_file, sized, extended, turned, named, worded, drawn, valid, Printed, Named, Worded, Drawn, Valid}
 
--- a loop over points, at the one at i
-pub near_more : (n i : ℕ) (ps : List Point) (d : Point) → i < length ps → all_within n (drop i ps) ≡ (within n (get_or ps i d) && all_within n (drop (i + 1) ps))
-near_more n i ps d h = at_drop_more (all_within n) ps i d h
-
--- and where none is left
-pub near_all : (n i : ℕ) (ps : List Point) → length ps ≤ i → all_within n (drop i ps) ≡ true
-near_all n i ps h = at_drop_all (all_within n) ps i h
+-- the test of all points, as the library's
+pub all_within_is : (n : ℕ) (ps : List Point) → list_all (within n) ps ≡ all_within n ps
+all_within_is n ps = same_from_clauses (list_all (within n)) (all_within n) (λ p r. within n p && r) refl (λ _ _. refl) (λ _ _. refl) ps
 
 at_most : (a b : ℕ) → Decides (leb a b) (a ≤ b)
 at_most a b = (leb-true a b, le-leb a b)

@@ -3,8 +3,8 @@ use Rattle.std.specs.Prelude.{◌≡◌, ◌+◌, Bool, true, false, List, [], �
 use Rattle.std.specs.List.{AllByRecursion as Every}
 use Rattle.tokens.specs.Chains.{largest}
 use Rattle.bounds.specs.declared.point.Point.{Point}
+use Rattle.bounds.specs.declared.bounds.Bounds.{Bounds}
 use Rattle.bounds.specs.Points.{reach, point, origin}
-use Rattle.items.specs.declared.extent.Extent.{Extent}
 use Rattle.items.specs.declared.stage.Stage.{Stage}
 use Rattle.items.specs.declared.stage.Stage.TheVariants.{Before, Top, Cell, Ended}
 use Rattle.items.specs.Things.{Thing, a_start, a_cell, a_placement, a_text, a_rectangle, a_polygon, a_path, an_end}
@@ -16,7 +16,7 @@ use Rattle.items.specs.Extents.{box_of}
 pub data Case : Type 0 where
   validity : Thing → Bool → Case
   stages : List Thing → Option Stage → Case
-  boxes : Thing → Option Extent → Case
+  boxes : Thing → Option Bounds → Case
 
 abbrev pub Holds : Case → Type 0
 Holds (validity t r) = valid t ≡ r

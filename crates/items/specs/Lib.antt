@@ -1,3 +1,4 @@
+pub mod Lists
 pub mod Things
 pub mod Validity
 pub mod Sequences

@@ -1,8 +1,9 @@
 -- In which order items come.
-use Rattle.std.specs.Prelude.{◌≡◌, ◌⊎◌, List, [], ◌∷◌, ◌++◌, is_some, Some, None, Decides, fold, Option}
+use Rattle.std.specs.Prelude.{◌≡◌, List, [], ◌∷◌, ◌++◌, is_some, Some, None, Decides, fold, Option}
 use Rattle.tokens.specs.Laws.{Exactly}
 use Rattle.items.specs.declared.stage.Stage.{Stage}
 use Rattle.items.specs.declared.stage.Stage.TheVariants.{Before, Top, Cell, Ended}
+use Rattle.items.specs.Lists.{Any}
 use Rattle.items.specs.Things.{Thing, a_start, a_cell, a_placement, a_text, a_rectangle, a_polygon, a_path, an_end}
 
 -- the kinds of items that the order tells apart
@@ -24,8 +25,7 @@ kind_of an_end = ending
 
 -- an item of the kind is among these
 abbrev pub Seen : Kind → List Thing → Type 0
-Seen k [] = ⊥
-Seen k (t ∷ ts) = (kind_of t ≡ k) ⊎ Seen k ts
+Seen k ts = Any (λ t. kind_of t ≡ k) ts
 
 -- an item may come after those before it
 pub record InPlace (before : List Thing) (t : Thing) : Type 0 where

@@ -1,6 +1,7 @@
 -- Which items a file can give.
 use Rattle.std.specs.Prelude.{ℕ, ◌+◌, ◌≤◌, Bool, true, ◌&&◌, List, length, ℤ, nat_le, unsigned_abs}
 use Rattle.std.specs.List.{AllByRecursion as Every}
+use Rattle.tokens.specs.declared.text.StringRule.{StringRule}
 use Rattle.tokens.specs.declared.text.StringRule.TheVariants.{Name, Ascii}
 use Rattle.tokens.specs.Chains.{largest}
 use Rattle.tokens.specs.Texts.{space, first_visible, last_printable, obeys}
@@ -8,28 +9,35 @@ use Rattle.bounds.specs.declared.point.Point.{Point}
 use Rattle.bounds.specs.Points.{reach, Near, within, all_within}
 use Rattle.items.specs.Things.{Thing, a_start, a_cell, a_placement, a_text, a_rectangle, a_polygon, a_path, an_end}
 
+-- two numbers that are m at most
+abbrev pub at_most : ℕ → ℕ → ℕ → Bool
+at_most m a b = nat_le a m && nat_le b m
+
 -- two integers of a file, as a layer and a datatype
 abbrev pub in_file : ℕ → ℕ → Bool
-in_file a b = nat_le a largest && nat_le b largest
+in_file a b = at_most largest a b
 
 -- two sizes in reach, as a width and a height
 abbrev pub sized : ℕ → ℕ → Bool
-sized a b = nat_le a reach && nat_le b reach
+sized a b = at_most reach a b
 
 -- two extensions in reach
 abbrev pub extended : ℤ → ℤ → Bool
-extended a b = nat_le (unsigned_abs a) reach && nat_le (unsigned_abs b) reach
+extended a b = at_most reach (unsigned_abs a) (unsigned_abs b)
 
 -- a quarter turn and a flip
 abbrev pub turned : ℕ → ℕ → Bool
 turned a f = nat_le a 3 && nat_le f 1
 
--- a name, and a text, that a string of a file can hold
+-- bytes that a string of a file can hold: a name, and a text
+abbrev pub held : StringRule → List ℕ → Bool
+held r s = obeys r s && nat_le (length s) largest
+
 abbrev pub named : List ℕ → Bool
-named n = obeys Name n && nat_le (length n) largest
+named n = held Name n
 
 abbrev pub worded : List ℕ → Bool
-worded s = obeys Ascii s && nat_le (length s) largest
+worded s = held Ascii s
 
 -- vertices in reach, at least so many, and no more than a file can count: it counts those after the first
 abbrev pub drawn : ℕ → List Point → Bool

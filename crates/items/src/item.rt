@@ -7,7 +7,7 @@ ghost use Rattle.items.specs.Things.{thing_of, a_start, a_rectangle, an_end};
 use bounds::Point;
 
 /// One thing that is handed out. Names and texts are bytes.
-#[derive(Clone, Copy)]
+#[derive(Clone, Copy, PartialEq, Eq, Debug)]
 pub enum Item<'a> {
     /// The beginning of a drawing, with its unit.
     Start {
@@ -21,6 +21,7 @@ pub enum Item<'a> {
     Placement {
         name: &'a [u8],
         at: Point,
+        // The angle and the flip stay numbers: a caller may give any, and `is_valid` tells which a file can hold.
         angle: u8,
         flip: u8,
     },

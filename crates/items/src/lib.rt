@@ -10,7 +10,7 @@ mod laws;
 mod stage;
 mod validity;
 
-pub use extent::{Extent, box_of};
+pub use extent::box_of;
 pub use item::Item;
 pub use laws::{laws_of_sequences, worked_examples};
 pub use stage::{Stage, stage_after};

@@ -9,7 +9,7 @@ ghost use Rattle.items.specs.Sequences.{following};
 use crate::item::Item;
 
 /// How far a sequence of items has come.
-#[derive(Clone, Copy)]
+#[derive(Clone, Copy, PartialEq, Eq, Debug)]
 pub enum Stage {
     /// Nothing has come.
     Before,

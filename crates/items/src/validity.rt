@@ -3,10 +3,10 @@
 ghost use Rattle.std.specs.Prelude.{◌≡◌, Decides};
 ghost use Rattle.bounds.specs.Points.{reach, all_within};
 ghost use Rattle.items.specs.Things.{thing_of};
-ghost use Rattle.items.specs.Validity.{in_file, sized, extended, turned, named, worded, drawn, valid, Valid};
+ghost use Rattle.items.specs.Validity.{at_most, turned, held, drawn, valid, Valid};
 
 use crate::item::Item;
-use bounds::{Point, REACH, reaches};
+use bounds::{Point, REACH};
 use tokens::{LARGEST, StringRule, obeys};
 
 // The greatest angle, in quarter turns.
@@ -17,25 +17,11 @@ const POLYGON_VERTICES: u64 = 3;
 
 const PATH_VERTICES: u64 = 1;
 
-// Whether a file can hold both integers.
-fn are_in_file(a: u64, b: u64) -> bool
-    ensures { result ≡ in_file a b }
+/// Whether both numbers are `most` at most.
+pub fn are_at_most(most: u64, a: u64, b: u64) -> bool
+    ensures tests { result ≡ at_most most a b }
 {
-    a <= LARGEST && b <= LARGEST
-}
-
-/// Whether both sizes are in reach.
-pub fn are_sizes(a: u64, b: u64) -> bool
-    ensures tests { result ≡ sized a b }
-{
-    a <= REACH && b <= REACH
-}
-
-// Whether both extensions are in reach.
-fn are_extensions(a: i64, b: i64) -> bool
-    ensures { result ≡ extended a b }
-{
-    a.unsigned_abs() <= REACH && b.unsigned_abs() <= REACH
+    a <= most && b <= most
 }
 
 // Whether these are an angle and a flip.
@@ -45,30 +31,18 @@ fn is_turn(angle: u8, flip: u8) -> bool
     angle <= LAST_ANGLE && flip <= 1
 }
 
-// Whether the bytes are a name.
-fn is_name(bytes: &[u8]) -> bool
-    ensures { result ≡ named bytes.now }
+// Whether a string of a file that obeys the rule can hold the bytes.
+fn is_string(bytes: &[u8], rule: StringRule) -> bool
+    ensures { result ≡ held rule bytes.now }
 {
-    obeys(bytes, StringRule::Name) && bytes.len() as u64 <= LARGEST
-}
-
-// Whether the bytes are a text.
-fn is_text(bytes: &[u8]) -> bool
-    ensures { result ≡ worded bytes.now }
-{
-    obeys(bytes, StringRule::Ascii) && bytes.len() as u64 <= LARGEST
+    obeys(bytes, rule) && bytes.len() as u64 <= LARGEST
 }
 
 // Whether all points are in reach.
 fn are_near(points: &[Point]) -> bool
     ensures { result ≡ all_within reach points.now }
 {
-    for p in points {
-        if !reaches(*p, REACH) {
-            return false;
-        }
-    }
-    true
+    points.iter().all(|p| p.reaches(REACH))
 }
 
 // Whether these are the vertices of a figure that has `few` at least.
@@ -79,37 +53,41 @@ fn are_vertices(points: &[Point], few: u64) -> bool
     few <= count && count <= LARGEST + 1 && are_near(points)
 }
 
-// Whether the fields of an item are what its kind wants.
+// Whether the fields of an item are what its kind wants. In `is_valid` itself its law stays open at six of the returns.
 fn are_fields(item: Item<'_>) -> bool
     ensures { result ≡ valid (thing_of item.entry) }
 {
     match item {
         Item::Start { unit } => 1 <= unit && unit <= LARGEST,
-        Item::Cell { name } => is_name(name),
+        Item::Cell { name } => is_string(name, StringRule::Name),
         Item::Placement {
             name,
             at,
             angle,
             flip,
-        } => is_name(name) && reaches(at, REACH) && is_turn(angle, flip),
+        } => is_string(name, StringRule::Name) && at.reaches(REACH) && is_turn(angle, flip),
         Item::Text {
             textlayer,
             texttype,
             at,
             text,
-        } => are_in_file(textlayer, texttype) && reaches(at, REACH) && is_text(text),
+        } => are_at_most(LARGEST, textlayer, texttype)
+            && at.reaches(REACH)
+            && is_string(text, StringRule::Ascii),
         Item::Rectangle {
             layer,
             datatype,
             width,
             height,
             at,
-        } => are_in_file(layer, datatype) && are_sizes(width, height) && reaches(at, REACH),
+        } => are_at_most(LARGEST, layer, datatype)
+            && are_at_most(REACH, width, height)
+            && at.reaches(REACH),
         Item::Polygon {
             layer,
             datatype,
             vertices,
-        } => are_in_file(layer, datatype) && are_vertices(vertices, POLYGON_VERTICES),
+        } => are_at_most(LARGEST, layer, datatype) && are_vertices(vertices, POLYGON_VERTICES),
         Item::Path {
             layer,
             datatype,
@@ -118,9 +96,9 @@ fn are_fields(item: Item<'_>) -> bool
             end,
             vertices,
         } => {
-            are_in_file(layer, datatype)
+            are_at_most(LARGEST, layer, datatype)
                 && half <= REACH
-                && are_extensions(start, end)
+                && are_at_most(REACH, start.unsigned_abs(), end.unsigned_abs())
                 && are_vertices(vertices, PATH_VERTICES)
         }
         Item::End => true,

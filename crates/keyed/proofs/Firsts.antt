@@ -1,17 +1,13 @@
 -- Laws of first elements.
 use Rattle.std.proofs.Common.{◌≡◌, ℕ, zero, suc, ◌<◌, Bool, true, false, cond, not, ◌||◌, List, [], ◌∷◌, ◌++◌, length, get_or, Some, filter, sym, refl, ap, ◌∙◌, ⊎_elim, arith}
-use Rattle.std.specs.List.{AllByRecursion as Every}
+use Rattle.std.specs.List.{list_any, find, AllByRecursion as Every}
 use Rattle.std.proofs.lemmas.List.Elements.{filter-append}
 use Rattle.std.proofs.ByRecursion.{All-get_or, All-from_get_or, All-push, all_kept_by, All-weaker, kept_by_passes}
 use Rattle.std.proofs.lemmas.List.{append-nil}
 use Rattle.std.proofs.lemmas.Bool.{cond-true, cond-false, cases_Bool, not-true, or_right}
-use Rattle.keyed.specs.Firsts.{any, first, firsts, EachTwo}
+use Rattle.keyed.specs.Firsts.{firsts, EachTwo}
 
 module _ {X : Type 0} where
-  pub any_push : (p : X → Bool) (xs : List X) (y : X) → any p (xs ++ y ∷ []) ≡ (any p xs || p y)
-  any_push p [] y = elim (p y) as (λ t. (t || false) ≡ t) [ true ↦ refl | false ↦ refl ]
-  any_push p (x ∷ xs) y = elim (p x) as (λ t. (t || any p (xs ++ y ∷ [])) ≡ ((t || any p xs) || p y)) [ true ↦ refl | false ↦ any_push p xs y ]
-
   module _ (R : X → X → Type 0) where
     pub each_two_push : (xs : List X) (y : X) → EachTwo R xs → Every (λ x. R x y) xs → EachTwo R (xs ++ y ∷ [])
     each_two_push [] y e a = (tt, tt)
@@ -51,11 +47,11 @@ module _ {X : Type 0} where
     all_firsts P (x ∷ xs) a = (a.0, all_kept_by (λ y. not (like x y)) P (firsts like xs) (all_firsts P xs a.1))
 
     -- one element more at the end
-    pub firsts_push : (xs : List X) (y : X) → firsts like (xs ++ y ∷ []) ≡ cond (any (λ x. like x y) xs) (firsts like xs) (firsts like xs ++ y ∷ [])
+    pub firsts_push : (xs : List X) (y : X) → firsts like (xs ++ y ∷ []) ≡ cond (list_any (λ x. like x y) xs) (firsts like xs) (firsts like xs ++ y ∷ [])
     firsts_push [] y = refl
     firsts_push (x ∷ xs) y =
         ap (λ l. x ∷ filter (λ z. not (like x z)) l) (firsts_push xs y)
-        ∙ elim (any (λ z. like z y) xs) as (λ t. ◌≡◌ {A = List X} (x ∷ filter (λ z. not (like x z)) (cond t (firsts like xs) (firsts like xs ++ y ∷ []))) (cond (like x y || t) (x ∷ filter (λ z. not (like x z)) (firsts like xs)) (x ∷ filter (λ z. not (like x z)) (firsts like xs) ++ y ∷ []))) [
+        ∙ elim (list_any (λ z. like z y) xs) as (λ t. ◌≡◌ {A = List X} (x ∷ filter (λ z. not (like x z)) (cond t (firsts like xs) (firsts like xs ++ y ∷ []))) (cond (like x y || t) (x ∷ filter (λ z. not (like x z)) (firsts like xs)) (x ∷ filter (λ z. not (like x z)) (firsts like xs) ++ y ∷ []))) [
           | true ↦ sym (cond-true (like x y || true) _ _ (or_right _ _ refl))
           | false ↦ ap (λ l. x ∷ l) (filter-append (λ z. not (like x z)) (firsts like xs) (y ∷ []))
               ∙ elim (like x y) as (λ t. ◌≡◌ {A = List X} (x ∷ filter (λ z. not (like x z)) (firsts like xs) ++ cond (not t) (y ∷ []) []) (cond (t || false) (x ∷ filter (λ z. not (like x z)) (firsts like xs)) (x ∷ filter (λ z. not (like x z)) (firsts like xs) ++ y ∷ []))) [
@@ -65,13 +61,13 @@ module _ {X : Type 0} where
         ]
 
     -- where like elements are one, a test passes one of the firsts exactly when it passes one of all
-    any_others : (p : X → Bool) (x : X) (ys : List X) → Every (λ y. like x y ≡ true → x ≡ y) ys → (p x || any p (filter (λ y. not (like x y)) ys)) ≡ (p x || any p ys)
+    any_others : (p : X → Bool) (x : X) (ys : List X) → Every (λ y. like x y ≡ true → x ≡ y) ys → (p x || list_any p (filter (λ y. not (like x y)) ys)) ≡ (p x || list_any p ys)
     any_others p x [] a = refl
     any_others p x (y ∷ ys) a = ⊎_elim
-        (λ e. ap (λ t. p x || any p (cond (not t) (y ∷ filter (λ z. not (like x z)) ys) (filter (λ z. not (like x z)) ys))) e
+        (λ e. ap (λ t. p x || list_any p (cond (not t) (y ∷ filter (λ z. not (like x z)) ys) (filter (λ z. not (like x z)) ys))) e
         ∙ any_others p x ys a.1
-        ∙ twice (p x) (p y) (any p ys) (ap p (a.0 e)))
-        (λ e. ap (λ t. p x || any p (cond (not t) (y ∷ filter (λ z. not (like x z)) ys) (filter (λ z. not (like x z)) ys))) e
+        ∙ twice (p x) (p y) (list_any p ys) (ap p (a.0 e)))
+        (λ e. ap (λ t. p x || list_any p (cond (not t) (y ∷ filter (λ z. not (like x z)) ys) (filter (λ z. not (like x z)) ys))) e
         ∙ over (p x) (p y) _ _ (any_others p x ys a.1))
         (cases_Bool (like x y))
       where
@@ -85,28 +81,28 @@ module _ {X : Type 0} where
         over false true u v e = refl
         over false false u v e = e
 
-    pub any-firsts : (p : X → Bool) (xs : List X) → EachTwo (λ x y. like x y ≡ true → x ≡ y) xs → any p (firsts like xs) ≡ any p xs
+    pub any-firsts : (p : X → Bool) (xs : List X) → EachTwo (λ x y. like x y ≡ true → x ≡ y) xs → list_any p (firsts like xs) ≡ list_any p xs
     any-firsts p [] e = refl
     any-firsts p (x ∷ xs) e =
         any_others p x (firsts like xs) (all_firsts (λ y. like x y ≡ true → x ≡ y) xs e.0) ∙ ap (λ t. p x || t) (any-firsts p xs e.1)
 
     -- a test that like elements pass alike finds the same among the firsts
     module _ (p : X → Bool) (alike : (x y : X) → like x y ≡ true → p x ≡ false → p y ≡ false) where
-      first_others : (x : X) (ys : List X) → p x ≡ false → first p (filter (λ y. not (like x y)) ys) ≡ first p ys
-      first_others x [] n = refl
-      first_others x (y ∷ ys) n = ⊎_elim
-          (λ e. ap (λ t. first p (cond (not t) (y ∷ filter (λ z. not (like x z)) ys) (filter (λ z. not (like x z)) ys))) e
-          ∙ first_others x ys n
+      find_others : (x : X) (ys : List X) → p x ≡ false → find p (filter (λ y. not (like x y)) ys) ≡ find p ys
+      find_others x [] n = refl
+      find_others x (y ∷ ys) n = ⊎_elim
+          (λ e. ap (λ t. find p (cond (not t) (y ∷ filter (λ z. not (like x z)) ys) (filter (λ z. not (like x z)) ys))) e
+          ∙ find_others x ys n
           ∙ sym (cond-false (p y) _ _ (alike x y e n)))
-          (λ e. ap (λ t. first p (cond (not t) (y ∷ filter (λ z. not (like x z)) ys) (filter (λ z. not (like x z)) ys))) e
-          ∙ ap (λ o. cond (p y) (Some y) o) (first_others x ys n))
+          (λ e. ap (λ t. find p (cond (not t) (y ∷ filter (λ z. not (like x z)) ys) (filter (λ z. not (like x z)) ys))) e
+          ∙ ap (λ o. cond (p y) (Some y) o) (find_others x ys n))
           (cases_Bool (like x y))
 
-      pub first-firsts : (xs : List X) → first p (firsts like xs) ≡ first p xs
-      first-firsts [] = refl
-      first-firsts (x ∷ xs) = ⊎_elim
+      pub find-firsts : (xs : List X) → find p (firsts like xs) ≡ find p xs
+      find-firsts [] = refl
+      find-firsts (x ∷ xs) = ⊎_elim
           (λ e. cond-true (p x) _ _ e ∙ sym (cond-true (p x) _ _ e))
-          (λ e. cond-false (p x) _ _ e ∙ first_others x (firsts like xs) e ∙ first-firsts xs ∙ sym (cond-false (p x) _ _ e))
+          (λ e. cond-false (p x) _ _ e ∙ find_others x (firsts like xs) e ∙ find-firsts xs ∙ sym (cond-false (p x) _ _ e))
           (cases_Bool (p x))
 
     -- no two of the firsts are alike, and each element is like one of them

@@ -1,13 +1,8 @@
 -- A table of rows as a list, in order of first coming.
-use Rattle.std.specs.Prelude.{ℕ, zero, suc, ◌+◌, Bool, cond, List, [], ◌∷◌, ◌++◌, length, take, Some, None, Ok, Err, Option, Result, nat_lt, slice_set}
+use Rattle.std.specs.Prelude.{ℕ, zero, suc, Bool, cond, List, [], ◌∷◌, ◌++◌, length, take, Ok, Err, Option, Result, nat_lt, position, slice_set}
 use Rattle.keyed.specs.declared.table.Entry.{Entry}
 use Rattle.keyed.specs.declared.table.Table.{Table}
 use Rattle.keyed.specs.declared.table.NoRow.{NoRow}
-
--- the place of the first row that passes the test, counted from i
-abbrev pub place : {R : Type 0} → (R → Bool) → ℕ → List R → Option ℕ
-place p i [] = None
-place p i (r ∷ rs) = cond (p r) (Some i) (place p (i + 1) rs)
 
 module _ {K V : Type 0} where
   abbrev pub has_key : (K → K → Bool) → K → Entry K V → Bool
@@ -15,15 +10,7 @@ module _ {K V : Type 0} where
 
   -- the place of the first row with the key
   abbrev pub find_key : (K → K → Bool) → K → List (Entry K V) → Option ℕ
-  find_key same k rows = place (has_key same k) 0 rows
-
-  abbrev pub value_of : Option (Entry K V) → Option V
-  value_of None = None
-  value_of (Some row) = Some row.value
-
-  -- a row of zeros
-  abbrev pub zero_row : K → V → Entry K V
-  zero_row k v = record { key = k; value = v }
+  find_key same k rows = position (has_key same k) rows
 
   -- the rows of a table that are in use
   abbrev pub table : Table K V → List (Entry K V)

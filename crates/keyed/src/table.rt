@@ -1,58 +1,45 @@
 //! The table.
 
-ghost use Rattle.std.specs.Prelude.{◌≡◌, ℕ, ◌+◌, ◌<◌, ◌≤◌, ◌&&◌, [], ◌∷◌, ◌++◌, length, replicate, ◌==◌, nat_lt};
-ghost use Rattle.std.specs.List.{slice_get};
-ghost use Rattle.keyed.specs.Firsts.{first};
+ghost use Rattle.std.specs.Prelude.{◌≡◌, ◌≤◌, [], length, replicate, nat_lt};
+ghost use Rattle.std.specs.List.{slice_get, find};
+ghost use Rattle.std.specs.Option.{option_map};
 ghost use Rattle.keyed.specs.Found.{Found};
-ghost use Rattle.keyed.specs.Rows.{find_key, has_key, value_of, table, memory, room, added, laid, next_place, updated, changed, zero_row};
 ghost use Rattle.std.proofs.Common.{rules};
 
 use crate::key::{Key, Zero};
 
 /// A row: a key and its value.
-#[derive(Clone, Copy)]
+#[derive(Clone, Copy, PartialEq, Eq, Default, Debug)]
 pub struct Entry<K, V> {
     pub key: K,
     pub value: V,
 }
 
 /// A table over lent rows, of which the first are in use.
+// It has no model: the rows are lent, so contracts name all that they hold at the return, unused ones too, and these are the fields.
 #[derive(Drop)]
 pub struct Table<'r, K, V> {
     rows: &'r mut [Entry<K, V>],
     used: usize,
+    ghost within: { used ≤ length rows.now },
 }
 
 /// All rows are in use.
-#[derive(Clone, Copy)]
+#[derive(Clone, Copy, PartialEq, Eq, Debug)]
 pub struct NoRow;
-
-// The place of the first row with the key.
-fn position<K: Key, V: Copy>(rows: &[Entry<K, V>], key: K) -> Option<usize>
-    ensures { result ≡ find_key K.Key.same key rows.now }
-{
-    for (i, row) in rows.iter().enumerate() {
-        if row.key.is(&key) {
-            return Some(i);
-        }
-    }
-    None
-}
 
 /// Sets every row to zeros.
 pub fn clear_rows<K: Zero, V: Zero>(rows: &mut [Entry<K, V>])
-    ensures zeros { rows.new ≡ replicate (length rows.old) (zero_row K.Zero.zero V.Zero.zero) }
+    ensures zeros { rows.new ≡ replicate (length rows.old) (record { key = K.Zero.zero; value = V.Zero.zero }) }
 {
-    let none = Entry {
-        key: K::zeroed(),
-        value: V::zeroed(),
-    };
-    for row in rows.iter_mut() {
-        *row = none;
-    }
+    // Not `fill`, which asks for a clone that cannot fail, and of a `Copy` type parameter that is not known.
+    let zero = Entry::default();
+    rows.fill_with(move || zero);
 }
 
 impl<'r, K: Key, V: Copy> Table<'r, K, V> {
+    ghost use Rattle.keyed.specs.Rows.{find_key, has_key, table, memory, room, added, laid, next_place, updated, changed};
+
     /// An empty table over the rows, which may hold anything and stay as they are.
     pub fn new(rows: &'r mut [Entry<K, V>]) -> Table<'r, K, V>
         ensures empty { table result ≡ [] }
@@ -66,8 +53,7 @@ impl<'r, K: Key, V: Copy> Table<'r, K, V> {
     pub fn live(&self) -> &[Entry<K, V>]
         ensures { result.now ≡ table self.now }
     {
-        let n = self.used.min(self.rows.len());
-        &self.rows[0..n]
+        &self.rows[..self.used]
     }
 
     /// How many rows are in use.
@@ -81,26 +67,25 @@ impl<'r, K: Key, V: Copy> Table<'r, K, V> {
     pub fn row(&self, i: usize) -> Option<Entry<K, V>>
         ensures row { result ≡ slice_get (table self.now) i }
     {
-        let rows = self.live();
-        if i < rows.len() { Some(rows[i]) } else { None }
+        self.live().get(i).copied()
     }
 
     /// The place of the first row with the key.
     pub fn find(&self, key: K) -> Option<usize>
-        ensures place { result ≡ find_key K.Key.same key (table self.now) }
+        ensures place { result ≡ find_key K.PartialEq.eq key (table self.now) }
         ensures found { Found key (table self.now) result }
     {
-        position(self.live(), key)
+        self.live().iter().position(|row| row.key == key)
     }
 
     /// The value of the first row with the key.
     pub fn get(&self, key: K) -> Option<V>
-        ensures value { result ≡ value_of (first (has_key K.Key.same key) (table self.now)) }
+        ensures value { result ≡ option_map (λ row. row.value) (find (has_key K.PartialEq.eq key) (table self.now)) }
     {
-        match self.find(key) {
-            Some(i) => Some(self.live()[i].value),
-            None => None,
-        }
+        self.live()
+            .iter()
+            .find(|row| row.key == key)
+            .map(|row| row.value)
     }
 
     /// One row more, at the end, and its place; or a refusal where all rows are in use.
@@ -110,6 +95,7 @@ impl<'r, K: Key, V: Copy> Table<'r, K, V> {
         ensures memory { memory self.new ≡ laid (memory self.old) (length (table self.old)) (record { key = key; value = value }) }
         ensures lender { self.new.rows.ghost_name ≡ self.old.rows.ghost_name }
     {
+        // By index: with `get_mut(used).ok_or(NoRow)?` it stayed open that a refusal leaves the rows as they were.
         let used = self.used;
         if used >= self.rows.len() {
             return Err(NoRow);
@@ -120,14 +106,14 @@ impl<'r, K: Key, V: Copy> Table<'r, K, V> {
     }
 
     /// Sets the value of a row in use, and answers whether there is such a row.
+    // A `bool`, since a missing row is the one refusal and there is nothing to hand back: `Option<()>` would say the same.
     pub fn update(&mut self, i: usize, value: V) -> bool
         ensures answer { result ≡ nat_lt i (length (table self.old)) }
         ensures rows { table self.new ≡ updated (table self.old) i value }
         ensures memory { memory self.new ≡ changed (memory self.old) (length (table self.old)) i value }
         ensures lender { self.new.rows.ghost_name ≡ self.old.rows.ghost_name }
     {
-        let n = self.used.min(self.rows.len());
-        if i >= n {
+        if i >= self.used {
             return false;
         }
         self.rows[i].value = value;
@@ -136,10 +122,12 @@ impl<'r, K: Key, V: Copy> Table<'r, K, V> {
 }
 
 impl<'r, K: Zero, V: Zero> Table<'r, K, V> {
+    ghost use Rattle.keyed.specs.Rows.{table, memory, room};
+
     /// Lets all rows go and sets them to zeros.
     pub fn clear(&mut self)
         ensures empty { table self.new ≡ [] }
-        ensures zeros { memory self.new ≡ replicate (room self.old) (zero_row K.Zero.zero V.Zero.zero) }
+        ensures zeros { memory self.new ≡ replicate (room self.old) (record { key = K.Zero.zero; value = V.Zero.zero }) }
         ensures lender { self.new.rows.ghost_name ≡ self.old.rows.ghost_name }
     {
         self.used = 0;
@@ -151,39 +139,26 @@ impl<'r, K: Zero, V: Zero> Table<'r, K, V> {
 mod tests {
     use super::*;
 
-    #[derive(Clone, Copy)]
+    #[derive(Clone, Copy, PartialEq, Eq, Default, Debug)]
     struct Pair {
         layer: u64,
         datatype: u64,
     }
 
     impl Key for Pair {
-        ghost same = { λ a b. (a.layer == b.layer) && a.datatype == b.datatype };
-
         ghost decides = { Prim.search rules };
-
-        fn is(&self, other: &Pair) -> bool {
-            self.layer == other.layer && self.datatype == other.datatype
-        }
     }
 
     impl Zero for Pair {
         ghost zero = { record { layer = 0; datatype = 0 } };
 
-        fn zeroed() -> Pair {
-            Pair {
-                layer: 0,
-                datatype: 0,
-            }
-        }
+        ghost only_zero = { Prim.search rules };
     }
 
     impl Zero for u8 {
         ghost zero = { 0 };
 
-        fn zeroed() -> u8 {
-            0
-        }
+        ghost only_zero = { λ x e. e };
     }
 
     fn of(layer: u64, datatype: u64) -> Pair {

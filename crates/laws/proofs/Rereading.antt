@@ -15,7 +15,7 @@ use Rattle.steps.specs.declared.state.Record.{Record}
 use Rattle.steps.specs.declared.state.Record.TheVariants as content
 use Rattle.steps.specs.declared.state.RecordAt.{RecordAt}
 use Rattle.runs.specs.Laws as run
-use Rattle.runs.specs.Laws.{Sequence, records_of}
+use Rattle.runs.specs.Laws.{Sequence}
 use Rattle.runs.specs.Runs.{longest, at_start}
 use Rattle.runs.proofs.Progress.{step_lands}
 use Rattle.runs.proofs.Sequences.{sequence_is_run}
@@ -68,10 +68,10 @@ data Seat : Stage → Position → Type 0 where
 
 -- no END was read there
 not_top : {t : FileState} → t ≡ state.Top → t ≡ state.Ended → ⊥
-not_top e f = let z : ◌≡◌ {A = ℕ} 0 1 = cc in omega arith
+not_top e f = cc
 
 not_cell : {t : FileState} → t ≡ state.Cell → t ≡ state.Ended → ⊥
-not_cell e f = let z : ◌≡◌ {A = ℕ} 0 1 = cc in omega arith
+not_cell e f = cc
 
 open_seat : {g : Stage} {p : Position} → Seat g p → p.context.state ≡ state.Ended → ⊥
 open_seat (top e) = not_top e
@@ -83,7 +83,7 @@ between_seat (cell c) = inr c.inside
 
 -- a refused item stays refused
 none_stays : {P : Type 0} (ts : List Thing) (g : Stage) → fold onward None ts ≡ Some g → P
-none_stays [] g e = let z : ◌≡◌ {A = ℕ} 0 1 = cc in absurd (omega arith)
+none_stays [] g e = absurd (cc)
 none_stays (t ∷ ts) g e = none_stays ts g e
 
 -- nothing follows an end
@@ -169,8 +169,8 @@ module _ (file : List ℕ) where
 
   -- what is left of the file is read as the items that are left
   trip : (us : List Thing) {g : Stage} (s : ℕ) (p : Position) → Seat g p → Due s p us → Every (λ t. valid t ≡ true) us → fold onward (Some g) us ≡ Some stage.Ended → Rest file p us
-  trip [] s p (top x) w v f = let z : ◌≡◌ {A = ℕ} 0 1 = cc in absurd (omega arith)
-  trip [] s p (cell x) w v f = let z : ◌≡◌ {A = ℕ} 0 1 = cc in absurd (omega arith)
+  trip [] s p (top x) w v f = absurd (cc)
+  trip [] s p (cell x) w v f = absurd (cc)
   trip (a_start u ∷ us) s p (top x) w v f = none_stays us stage.Ended f
   trip (a_start u ∷ us) s p (cell x) w v f = none_stays us stage.Ended f
   trip (a_cell n ∷ us) s p (top x) w v f = cell_trip n us s p (inl x) (not_top x) w v.0 (λ q c r. trip us (s + sum (cell_bytes n)) q (cell c) r v.1 f)
@@ -198,7 +198,7 @@ form_read : (ts : List Thing) → Drawable ts → (r : Rest (explicit_form ts) a
 form_read ts w = by ts w.valid ((whole ts).1 w.order) w.short
   where
     by : (ts : List Thing) → Every (λ t. valid t ≡ true) ts → order.stage_at ts ≡ Some stage.Ended → length (explicit_form ts) ≤ longest → (r : Rest (explicit_form ts) at_start ts) × run.Readable (explicit_form ts)
-    by [] v f h = let z : ◌≡◌ {A = ℕ} 0 1 = cc in absurd (omega arith)
+    by [] v f h = absurd (cc)
     by (a_start u ∷ us) v f h =
         let file : List ℕ = explicit_form (a_start u ∷ us) in
         let bs : List ℕ = start_bytes u in
@@ -206,7 +206,7 @@ form_read ts w = by ts w.valid ((whole ts).1 w.order) w.short
         let x = starts_read file rest at_start 0 u v.0 refl refl refl in
         let d = x.0 in
         let q = d.step.after in (
-          goes file at_start (length bs) (a_start u ∷ []) us d (λ e. let z : ◌≡◌ {A = ℕ} 0 1 = cc in omega arith)
+          goes file at_start (length bs) (a_start u ∷ []) us d (λ e. cc)
               (trip file us (0 + sum bs) q (top x.1) (due_next file 0 at_start q bs us refl (omega arith) refl refl d.next d.late) v.1 f),
           record { short = h; rest = bs ++ rest; marked = refl },
         )

@@ -13,9 +13,10 @@ use Rattle.fields.specs.Numbers.{layers, sides}
 use Rattle.fields.specs.References.{reference}
 use Rattle.fields.specs.Shapes.{points_or, vertices_of, outline}
 use Rattle.fields.specs.Strokes.{stroke}
+use Rattle.fields.specs.Variables.{stored_layers}
 use Rattle.fields.proofs.Gives.{Gives, gives_got, gives_then}
 use Rattle.elements.specs.declared.element.Drawn.{Drawn}
-use Rattle.elements.specs.Elements.{stored_layers, placement, text, rectangle, polygon, path, figure_present, has_list}
+use Rattle.elements.specs.Elements.{placement, text, rectangle, polygon, path, figure_present, has_list}
 use Rattle.elements.specs.Infos.{info, rectangle_info, form_of, present_of, following}
 use Rattle.legality.specs.Laws.{ElementsLegal}
 use Rattle.legality.specs.Legal.{LegalLayers, LegalElement, KeptLayers, Kept}

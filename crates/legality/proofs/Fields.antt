@@ -1,17 +1,16 @@
 -- Fields are legal, given or inherited.
-use Rattle.std.proofs.Common.{◌≡◌, ℕ, suc, ◌+◌, ◌-◌, ◌/◌, ◌%◌, Bool, cond, eqb, leb, List, length, ℤ, pos, nat_abs, Some, None, Ok, Err, Option, sym, refl, ap, ◌∙◌, subst, arith}
-use Rattle.std.specs.List.{between}
+use Rattle.std.proofs.Common.{◌≡◌, ℕ, suc, ◌/◌, ◌%◌, Bool, cond, eqb, leb, List, length, ℤ, pos, nat_abs, Some, None, Ok, Err, Option, refl, ap, subst, arith}
 use Rattle.std.proofs.lemmas.Bool.{leb-true}
 use Rattle.tokens.specs.declared.fault.Read.{Read}
 use Rattle.tokens.specs.declared.text.StringRule.{StringRule}
 use Rattle.tokens.specs.Answers.{Answer, got, then}
 use Rattle.tokens.specs.Chains.{unsigned}
 use Rattle.tokens.specs.Deltas.{signed}
+use Rattle.tokens.specs.Parts.{part}
 use Rattle.tokens.specs.Readers.{Made}
-use Rattle.tokens.specs.Texts.{obeys, text}
 use Rattle.tokens.proofs.Chaining.{same_got, not_fault}
 use Rattle.tokens.proofs.ChainLaws.{unsigned_made}
-use Rattle.tokens.proofs.Texts.{text_made}
+use Rattle.tokens.proofs.Parts.{part_made}
 use Rattle.bounds.specs.declared.point.Point.{Point}
 use Rattle.bounds.specs.Points.{reach, spot_at, all_within, places}
 use Rattle.bounds.proofs.Fitting.{all_within_lem}
@@ -35,7 +34,7 @@ use Rattle.fields.specs.declared.variables.SideVariables.{SideVariables}
 use Rattle.fields.specs.declared.vertices.Outline.{Outline}
 use Rattle.fields.specs.Anchors.{spot, anchor}
 use Rattle.fields.specs.Numbers.{inherited, field, measure, has_layer, has_datatype, has_width, has_height, is_square, layers, sides}
-use Rattle.fields.specs.References.{part_at, string_at, number_at, reference}
+use Rattle.fields.specs.References.{string_at, number_at, reference}
 use Rattle.fields.specs.Shapes.{points_or, offsets_of, spread_by, copies, outline_at, outline}
 use Rattle.fields.specs.Strokes.{has_half, has_extensions, extension, extensions_by, extensions, stroke}
 use Rattle.fields.proofs.Gives.{Gives, gives_got, gives_fault, gives_then, gives_cond, gives_of}
@@ -77,24 +76,20 @@ module _ (file : List ℕ) where
           gives_then (cond (is_square info) (got w n) (measure file n first (has_height info) v.height)) _ (λ h g. gives_got _ _ (record { width = p; height = q.on h g }))
 
   -- the text of a string, as a part of the file
-  part_legal : (rule : StringRule) (at : ℕ) → Gives (part_at rule file at) (λ p. LegalText rule file p.place p.size)
+  part_legal : (rule : StringRule) (at : ℕ) → Gives (part rule file at) (LegalText rule file)
   part_legal rule at =
-      gives_then (text rule file at) _ (λ t e.
-      let m = (text_made rule file at).on t e in
-      let s = m.2 in
-      let a = s.after in
-      let h = m.1 in
-      let k : t.next - length t.value + length t.value ≡ t.next = omega arith in
-      gives_got _ _
-      (record {
-        inside = omega arith;
-        short = s.short;
-        obeys = ap (λ i. obeys rule (between (t.next - length t.value) i file)) k ∙ ap (obeys rule) (sym s.here) ∙ s.legal;
-      }))
+      record {
+        on = λ x e.
+            let m = (part_made rule file at).on x e in
+            let s = m.2 in
+            let n = s.ends in
+            let h = m.1 in
+            record { inside = omega arith; short = s.short; obeys = s.legal };
+      }
 
   -- a string
   pub string_legal : (rule : StringRule) (at : ℕ) → Gives (string_at rule file at) (LegalReference rule file)
-  string_legal rule at = gives_then (part_at rule file at) _ (λ p e. gives_got _ _ ((part_legal rule at).on p e))
+  string_legal rule at = gives_then (part rule file at) _ (λ p e. gives_got _ _ ((part_legal rule at).on p e))
 
   -- a reference number
   pub number_legal : (rule : StringRule) (at : ℕ) → Gives (number_at file at) (LegalReference rule file)

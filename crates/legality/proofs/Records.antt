@@ -111,7 +111,7 @@ module _ (file : List ℕ) where
   performed_legal : (at first : ℕ) (c : Context) (id : ℕ) (a : Action) → Kept file c.modals → Gives (performed file at first c id a) (LegalFound file)
   performed_legal at first c id action.Pad k = gives_got _ _ (tt, k)
   performed_legal at first c id action.Start k = gives_then (start file at) _ (λ x e. gives_got _ _ (((start_made file at).on x e).2, fresh_kept file))
-  performed_legal at first c id action.End k = gives_then (end file at first c.late) _ (λ x e. gives_got _ _ (((end_made file at first c.late).on x e).2.known, fresh_kept file))
+  performed_legal at first c id action.End k = gives_then (end file at first c.late) _ (λ x e. gives_got _ _ (((end_made file at first c.late).on x e).2.sealed, fresh_kept file))
   performed_legal at first c id action.CellName k = gives_then (name_fields Name (eqb id 4) file at) _ (λ x e. gives_got _ _ ((name_legal Name (eqb id 4) file at).on x e, fresh_kept file))
   performed_legal at first c id action.TextString k = gives_then (name_fields Ascii (eqb id 6) file at) _ (λ x e. gives_got _ _ ((name_legal Ascii (eqb id 6) file at).on x e, fresh_kept file))
   performed_legal at first c id action.CellByNumber k = opened_legal c (number_at file at) (number_legal file Name at)
@@ -139,11 +139,11 @@ module _ (file : List ℕ) where
       by_body id (Ok r) g h =
           let same : s ≡ step_of p.at id r = cc in
           subst (λ (t : Step). LegalRecord file t.found.content × Kept file t.after.context.modals) (sym same) (g.on r refl)
-      by_body id (Err f) g h = let z : ◌≡◌ {A = ℕ} 0 1 = cc in absurd (omega arith)
+      by_body id (Err f) g h = absurd (cc)
 
       by_id : (x : Answer ℕ) → Ok s ≡ on_ok (enclosed p.at 0 x) (λ id. on_ok (enclosed p.at id.value (body file p id.value id.next)) (λ r. Ok (step_of p.at id.value r))) → LegalRecord file s.found.content × Kept file s.after.context.modals
       by_id (Ok r) h = by_body r.value _ (body_legal p r.value r.next k) h
-      by_id (Err t) h = let z : ◌≡◌ {A = ℕ} 0 1 = cc in absurd (omega arith)
+      by_id (Err t) h = absurd (cc)
 
   -- so does a sequence of them
   sequence_legal : {p q : Position} {rs : List RecordAt} → Sequence file p rs q → Kept file p.context.modals → Every (λ r. LegalRecord file r.content) rs

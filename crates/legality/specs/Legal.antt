@@ -1,10 +1,12 @@
 -- What a file can give: the limits of values, and places in reach.
 use Rattle.std.specs.Prelude.{◌≡◌, ℕ, ◌+◌, ◌≤◌, Bool, true, false, List, [], ◌∷◌, length, ℤ, Some, None, Option, unsigned_abs}
-use Rattle.std.specs.List.{between, AllByRecursion as Every}
+use Rattle.std.specs.List.{AllByRecursion as Every}
+use Rattle.tokens.specs.declared.part.Part.{Part}
 use Rattle.tokens.specs.declared.text.StringRule.{StringRule}
 use Rattle.tokens.specs.declared.text.StringRule.TheVariants.{Name, Ascii}
 use Rattle.tokens.specs.Chains.{largest}
 use Rattle.tokens.specs.Encodings.{FitsUnit}
+use Rattle.tokens.specs.Parts.{bytes_in}
 use Rattle.tokens.specs.Texts.{obeys}
 use Rattle.bounds.specs.declared.point.Point.{Point}
 use Rattle.bounds.specs.Points.{reach, origin, Near, places}
@@ -13,7 +15,8 @@ use Rattle.point_lists.specs.Laws.{Shaped}
 use Rattle.repetitions.specs.Laws.{Copied}
 use Rattle.repetitions.specs.Repetitions.{repetition}
 use Rattle.names.specs.declared.read.NameFields.{NameFields}
-use Rattle.frames.specs.Ends.{last_scheme}
+use Rattle.frames.specs.Ends.{sum_scheme, scheme_of}
+use Rattle.frames.specs.Laws.{Sealed}
 use Rattle.fields.specs.declared.copies.Repeated.{Repeated}
 use Rattle.fields.specs.declared.number.Layers.{Layers}
 use Rattle.fields.specs.declared.number.Sides.{Sides}
@@ -62,14 +65,14 @@ pub record LegalStroke (s : Stroke) : Type 0 where
   pub end : SignedInReach s.end
 
 -- a part of the file that obeys the rule
-pub record LegalText (rule : StringRule) (file : List ℕ) (place size : ℕ) : Type 0 where
-  pub inside : place + size ≤ length file
-  pub short : Fits size
-  pub obeys : obeys rule (between place (place + size) file) ≡ true
+pub record LegalText (rule : StringRule) (file : List ℕ) (p : Part) : Type 0 where
+  pub inside : p.place + p.size ≤ length file
+  pub short : Fits p.size
+  pub obeys : obeys rule (bytes_in file p) ≡ true
 
 -- a name or a text: a string that obeys the rule, or a number
 abbrev pub LegalReference : StringRule → List ℕ → Reference → Type 0
-LegalReference rule file (Given p) = LegalText rule file p.place p.size
+LegalReference rule file (Given p) = LegalText rule file p
 LegalReference rule file (Number k) = Fits k.number
 
 -- a repetition stands at this place
@@ -131,14 +134,14 @@ pub record Kept (file : List ℕ) (m : Modals) : Type 0 where
 
 -- the fields of a name record
 pub record LegalName (rule : StringRule) (file : List ℕ) (f : NameFields) : Type 0 where
-  pub text : LegalText rule file f.place f.size
+  pub text : LegalText rule file f.part
   pub number : Holds Fits f.number
 
 -- a record
 abbrev pub LegalRecord : List ℕ → Record → Type 0
 LegalRecord file content.Pad = Unit {0}
 LegalRecord file (content.Start s) = FitsUnit s.unit
-LegalRecord file (content.End e) = e.scheme ≤ last_scheme
+LegalRecord file (content.End e) = scheme_of e ≡ sum_scheme → Sealed file
 LegalRecord file (content.CellName f) = LegalName Name file f
 LegalRecord file (content.TextString f) = LegalName Ascii file f
 LegalRecord file (content.Cell r) = LegalReference Name file r

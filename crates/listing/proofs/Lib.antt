@@ -1,4 +1,3 @@
-pub mod Decimals
 pub mod Fields
-pub mod Lines
+pub mod Decimals
 pub mod Examples

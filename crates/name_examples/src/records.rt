@@ -6,6 +6,7 @@ use name_table::{NameKey, NamePart, NameRow, Names};
 use names::{CellNames, NameClass, TextStrings, read_name};
 use std::process::Abort;
 use std::test::Fail;
+use tokens::Part;
 
 // A row that was used before.
 fn used_row() -> NameRow {
@@ -15,31 +16,26 @@ fn used_row() -> NameRow {
             number: 0,
         },
         value: NamePart {
-            place: 1,
-            size: 1,
+            part: Part { place: 1, size: 1 },
             given: true,
         },
     }
 }
 
-// Reads the record of the class at the place and adds it: 0, or the number of the fault, which names the record.
+// Reads the record of the class at the place and adds it: none, or the number of the fault, which names the record.
 fn add<C: NameClass>(
     rt: &impl Abort,
     names: &mut Names,
     file: &[u8],
     at: usize,
     id: u8,
-) -> Result<u8, Fail> {
+) -> Result<Option<u8>, Fail> {
     let Ok(read) = read_name::<C>(file, at.saturating_add(1), id as u64) else {
         return Err(Fail::new("a name was due"));
     };
-    match names.add::<C>(at, read.value) {
-        Ok(_) => Ok(0),
-        Err(fault) => {
-            assert_eq!(rt; fault.place, at);
-            Ok(fault.kind.number())
-        }
-    }
+    let refused = names.add::<C>(at, read.value).err();
+    assert!(rt; refused.is_none_or(|fault| fault.place == at));
+    Ok(refused.map(|fault| fault.kind.number()))
 }
 
 // Adds the records at the places, each of which gives this answer.
@@ -47,36 +43,25 @@ fn adds(
     rt: &impl Abort,
     names: &mut Names,
     file: &[u8],
-    records: &[(usize, u8)],
+    records: &[(usize, Option<u8>)],
 ) -> Result<(), Fail> {
-    for record in records {
-        let Some(id) = file.get(record.0) else {
+    for (at, due) in records {
+        let Some(id) = file.get(*at) else {
             return Err(Fail::new("a record was due"));
         };
         let answer = if *id < 5 {
-            add::<CellNames>(rt, names, file, record.0, *id)?
+            add::<CellNames>(rt, names, file, *at, *id)?
         } else {
-            add::<TextStrings>(rt, names, file, record.0, *id)?
+            add::<TextStrings>(rt, names, file, *at, *id)?
         };
-        assert_eq!(rt; answer, record.1);
+        assert_eq!(rt; answer, *due);
     }
     Ok(())
 }
 
 // The number means this name in the class.
-fn means<C: NameClass>(
-    rt: &impl Abort,
-    names: &Names,
-    number: u64,
-    name: &[u8],
-) -> Result<(), Fail> {
-    match names.find::<C>(number) {
-        Some(found) => {
-            assert!(rt; found == name);
-            Ok(())
-        },
-        None => Err(Fail::new("a name was due")),
-    }
+fn means<C: NameClass>(rt: &impl Abort, names: &Names, number: u64, name: &[u8]) {
+    assert_eq!(rt; names.find::<C>(number), Some(name));
 }
 
 #[test]
@@ -85,10 +70,15 @@ fn names_are_numbered_in_their_order(rt: HostRuntime) -> Result<(), Fail> {
     let mut rows = [used_row(); 3];
     let mut names = Names::new(&file, &mut rows);
     assert!(rt; names.find::<CellNames>(0).is_none());
-    adds(&rt, &mut names, &file, &[(0, 0), (3, 0), (7, 16)])?;
+    adds(
+        &rt,
+        &mut names,
+        &file,
+        &[(0, None), (3, None), (7, Some(16))],
+    )?;
     assert_eq!(rt; names.len(), 2);
-    means::<CellNames>(&rt, &names, 0, &[0x41])?;
-    means::<CellNames>(&rt, &names, 1, &[0x42, 0x43])?;
+    means::<CellNames>(&rt, &names, 0, &[0x41]);
+    means::<CellNames>(&rt, &names, 1, &[0x42, 0x43]);
     assert!(rt; names.find::<CellNames>(2).is_none());
     Ok(())
 }
@@ -104,11 +94,18 @@ fn records_give_numbers_in_any_order(rt: HostRuntime) -> Result<(), Fail> {
         &rt,
         &mut names,
         &file,
-        &[(0, 0), (4, 0), (8, 0), (12, 16), (16, 16)],
+        &[
+            (0, None),
+            (4, None),
+            (8, None),
+            (12, Some(16)),
+            (16, Some(16)),
+        ],
     )?;
     assert_eq!(rt; names.len(), 2);
-    means::<CellNames>(&rt, &names, 9, &[0x41])?;
-    means::<CellNames>(&rt, &names, 2, &[0x42])
+    means::<CellNames>(&rt, &names, 9, &[0x41]);
+    means::<CellNames>(&rt, &names, 2, &[0x42]);
+    Ok(())
 }
 
 #[test]
@@ -119,13 +116,13 @@ fn a_class_has_one_kind_of_records(rt: HostRuntime) -> Result<(), Fail> {
         &rt,
         &mut Names::new(&file, &mut rows),
         &file,
-        &[(0, 0), (3, 16)],
+        &[(0, None), (3, Some(16))],
     )?;
     adds(
         &rt,
         &mut Names::new(&file, &mut rows),
         &file,
-        &[(3, 0), (0, 16)],
+        &[(3, None), (0, Some(16))],
     )
 }
 
@@ -134,11 +131,16 @@ fn each_class_has_its_own_numbers(rt: HostRuntime) -> Result<(), Fail> {
     let file: [u8; 14] = [3, 1, 0x41, 6, 1, 0x42, 0, 3, 1, 0x42, 6, 1, 0x41, 7];
     let mut rows = [used_row(); 4];
     let mut names = Names::new(&file, &mut rows);
-    adds(&rt, &mut names, &file, &[(0, 0), (3, 0), (7, 0), (10, 0)])?;
+    adds(
+        &rt,
+        &mut names,
+        &file,
+        &[(0, None), (3, None), (7, None), (10, None)],
+    )?;
     assert_eq!(rt; names.len(), 4);
-    means::<CellNames>(&rt, &names, 1, &[0x42])?;
-    means::<TextStrings>(&rt, &names, 0, &[0x42])?;
-    means::<TextStrings>(&rt, &names, 7, &[0x41])?;
+    means::<CellNames>(&rt, &names, 1, &[0x42]);
+    means::<TextStrings>(&rt, &names, 0, &[0x42]);
+    means::<TextStrings>(&rt, &names, 7, &[0x41]);
     assert!(rt; names.find::<TextStrings>(1).is_none());
     Ok(())
 }
@@ -148,7 +150,12 @@ fn a_conflict_is_told_before_rows_that_are_too_few(rt: HostRuntime) -> Result<()
     let file: [u8; 16] = [4, 1, 0x41, 1, 4, 1, 0x42, 2, 4, 1, 0x42, 1, 4, 1, 0x41, 1];
     let mut rows = [used_row(); 1];
     let mut names = Names::new(&file, &mut rows);
-    adds(&rt, &mut names, &file, &[(0, 0), (4, 21), (8, 16), (12, 0)])?;
+    adds(
+        &rt,
+        &mut names,
+        &file,
+        &[(0, None), (4, Some(21)), (8, Some(16)), (12, None)],
+    )?;
     assert_eq!(rt; names.len(), 1);
     Ok(())
 }
@@ -158,10 +165,14 @@ fn rows_are_cleared_to_zeros(rt: HostRuntime) {
     let mut rows = [used_row(); 2];
     clear_rows(&mut rows);
     for row in &rows {
-        assert_eq!(rt; row.key.class, 0);
-        assert_eq!(rt; row.key.number, 0);
-        assert_eq!(rt; row.value.place, 0);
-        assert_eq!(rt; row.value.size, 0);
-        assert!(rt; !row.value.given);
+        let key = NameKey {
+            class: 0,
+            number: 0,
+        };
+        let value = NamePart {
+            part: Part { place: 0, size: 0 },
+            given: false,
+        };
+        assert_eq!(rt; *row, NameRow { key, value });
     }
 }

@@ -1,5 +1,6 @@
 -- One record more, by the rows and by the records.
 use Rattle.std.proofs.Common.{◌≡◌, ℕ, ◌+◌, ◌<◌, ◌≤◌, Bool, true, false, cond, not, ◌&&◌, eqb, ltb, List, [], ◌∷◌, ◌++◌, length, is_some, Some, None, Ok, Err, Decides, Option, Result, sym, refl, ap, ◌∙◌, subst, ⊎_elim, arith}
+use Rattle.std.specs.List.{list_any, count_by}
 use Rattle.std.specs.Str.{bytes_eq}
 use Rattle.std.proofs.ByRecursion.{All-weaker}
 use Rattle.std.proofs.lemmas.List.{length-append}
@@ -9,8 +10,7 @@ use Rattle.tokens.specs.declared.fault.FaultKind.{FaultKind}
 use Rattle.tokens.specs.declared.fault.FaultKind.TheVariants.{NameConflict, FewRows}
 use Rattle.tokens.specs.declared.fault.TokenFault.{TokenFault}
 use Rattle.tokens.specs.Outcomes.{left_by}
-use Rattle.keyed.specs.Firsts.{any}
-use Rattle.name_table.specs.Records.{Seen, Named, count, implicit_in, number_or, name_after, names_of, Agrees, Agree, AgreesWith, New, same_key, pairs, rows_needed}
+use Rattle.name_table.specs.Records.{Seen, Named, implicit_in, number_or, name_after, names_of, Agrees, Agree, AgreesWith, New, same_key, pairs, rows_needed}
 use Rattle.name_table.specs.Enter.{clash, differ, in_class, next_name, enter_row, enter, told_at}
 use Rattle.name_table.specs.Laws.{Added, refused}
 use Rattle.name_table.proofs.Records.{Counts, any_weaker, clash_decides, kind_decides, key_decides, none_decides, any-pairs, agree_push, agree_last, rows_old, rows_new, kinds_of, rows_counted}
@@ -47,7 +47,7 @@ module _ (rs : List Seen) (r : Seen) where
       and_from _ _ w.0 (or_left (differ a.given (is_some r.given)) (differ (eqb a.number n) (bytes_eq a.name r.name)) w.1)
 
   -- where there is none, the rows of the class give the number that the records give
-  same_number : any other_kind (names_of rs) ≡ false → (g : Option ℕ) → g ≡ r.given → number_or (count (in_class r.class) (pairs rs)) g ≡ number_or (count (implicit_in r.class) rs) g
+  same_number : list_any other_kind (names_of rs) ≡ false → (g : Option ℕ) → g ≡ r.given → number_or (count_by (in_class r.class) (pairs rs)) g ≡ number_or (count_by (implicit_in r.class) rs) g
   same_number f (Some n) e = refl
   same_number f None e =
       let kinds = (none_decides other_kind (λ a. a.class ≡ r.class → a.given ≡ is_some r.given) (kind_decides r.class (is_some r.given)) (names_of rs)).0 (not_from_false _ f) in
@@ -56,11 +56,11 @@ module _ (rs : List Seen) (r : Seen) where
       (kinds_of r.class (is_some r.given) [] rs kinds))
 
   -- no clash: the record agrees
-  no_clash : Decides (not (any (λ a. clash a new) (names_of rs))) (AgreesWith rs r)
+  no_clash : Decides (not (list_any (λ a. clash a new) (names_of rs))) (AgreesWith rs r)
   no_clash = none_decides (λ a. clash a new) (λ a. Agrees a new) (λ a. clash_decides a new) (names_of rs)
 
   -- no such key: the record is new
-  no_key : Decides (not (any (λ a. same_key a new) (names_of rs))) (New rs r)
+  no_key : Decides (not (list_any (λ a. same_key a new) (names_of rs))) (New rs r)
   no_key = none_decides (λ a. same_key a new) (λ a. a.class ≡ r.class → a.number ≡ new.number → ⊥) (λ a. key_decides a new) (names_of rs)
 
   module _ (most : ℕ) where
@@ -73,7 +73,7 @@ module _ (rs : List Seen) (r : Seen) where
 
     module _ (agree : Agree rs) where
       -- a record that agrees and is new
-      fresh : AgreesWith rs r → any (λ a. same_key a new) (names_of rs) ≡ false → Outcome (cond (ltb (length (pairs rs)) most) (Ok (pairs rs ++ new ∷ [])) (Err FewRows))
+      fresh : AgreesWith rs r → list_any (λ a. same_key a new) (names_of rs) ≡ false → Outcome (cond (ltb (length (pairs rs)) most) (Ok (pairs rs ++ new ∷ [])) (Err FewRows))
       fresh w n =
           let q = rows_new rs r n in
           let grown : rows_needed again ≡ rows_needed rs + 1 = ap length q ∙ length-append (pairs rs) (new ∷ []) in
@@ -83,13 +83,13 @@ module _ (rs : List Seen) (r : Seen) where
           (cases_Bool (ltb (length (pairs rs)) most))
 
       -- a record that agrees
-      agreed : AgreesWith rs r → Outcome (cond (any (λ a. same_key a new) (pairs rs)) (Ok (pairs rs)) (cond (ltb (length (pairs rs)) most) (Ok (pairs rs ++ new ∷ [])) (Err FewRows)))
+      agreed : AgreesWith rs r → Outcome (cond (list_any (λ a. same_key a new) (pairs rs)) (Ok (pairs rs)) (cond (ltb (length (pairs rs)) most) (Ok (pairs rs ++ new ∷ [])) (Err FewRows)))
       agreed w =
           let e = any-pairs (λ a. same_key a new) rs agree in
           ⊎_elim
           (λ t. subst Outcome (sym (cond-true _ _ _ (e ∙ t))) (subst (λ l. Outcome (Ok l)) (rows_old rs r t) (known w (λ n. both_ways _ (ap not t) (no_key.1 n)) (ap length (rows_old rs r t)))))
           (λ f. subst Outcome (sym (cond-false _ _ _ (e ∙ f))) (fresh w f))
-          (cases_Bool (any (λ a. same_key a new) (names_of rs)))
+          (cases_Bool (list_any (λ a. same_key a new) (names_of rs)))
 
       -- a record with the number that the records give it
       placed : Outcome (enter_row most (pairs rs) new)
@@ -98,29 +98,23 @@ module _ (rs : List Seen) (r : Seen) where
           ⊎_elim
           (λ t. subst Outcome (sym (cond-true _ _ _ (e ∙ t))) (disagrees (λ w. both_ways _ (ap not t) (no_clash.1 w))))
           (λ f. subst Outcome (sym (cond-false _ _ _ (e ∙ f))) (agreed (no_clash.0 (not_from_false _ f))))
-          (cases_Bool (any (λ a. clash a new) (names_of rs)))
+          (cases_Bool (list_any (λ a. clash a new) (names_of rs)))
 
       -- any record
       pub outcome : Outcome (enter most (pairs rs) r)
       outcome = ⊎_elim
           (λ t.
-          let n = count (in_class r.class) (pairs rs) in
+          let n = count_by (in_class r.class) (pairs rs) in
           let here = any-pairs (λ a. clash a (next_name (pairs rs) r)) rs agree ∙ any_weaker other_kind (λ a. clash a (next_name (pairs rs) r)) (kind_clash (number_or n r.given)) (names_of rs) t in
           let there = any_weaker other_kind (λ a. clash a new) (kind_clash new.number) (names_of rs) t in
           subst Outcome (sym (cond-true _ _ _ here)) (disagrees (λ w. both_ways _ (ap not there) (no_clash.1 w))))
           (λ f. subst (λ n. Outcome (enter_row most (pairs rs) (numbered n))) (sym (same_number f r.given refl)) placed)
-          (cases_Bool (any other_kind (names_of rs)))
+          (cases_Bool (list_any other_kind (names_of rs)))
 
   -- answers that differ
   module _ (at : ℕ) where
-    ok_err : (e : TokenFault) → ◌≡◌ {A = Result (Unit {0}) TokenFault} (Ok tt) (Err e) → ⊥
-    ok_err e h = let z : ◌≡◌ {A = ℕ} 0 1 = cc in omega arith
-
-    err_ok : (e : TokenFault) → ◌≡◌ {A = Result (Unit {0}) TokenFault} (Err e) (Ok tt) → ⊥
-    err_ok e h = let z : ◌≡◌ {A = ℕ} 0 1 = cc in omega arith
-
     conflict_few : refused NameConflict at ≡ refused FewRows at → ⊥
-    conflict_few h = let z : ◌≡◌ {A = ℕ} 16 21 = ap code h in omega arith
+    conflict_few h = omega (arith, ap code h)
 
     -- the fault of a refusal is at the record
     at_record : (k : FaultKind) (e : TokenFault) → refused k at ≡ Err e → e.place ≡ at
@@ -132,29 +126,29 @@ module _ (rs : List Seen) (r : Seen) where
       learnt (Err e) (disagrees n) = record {
         conflict = (λ _. n, λ _. refl);
         few = (λ h. absurd (conflict_few h), λ h. absurd (n h.0));
-        taken = (λ h. absurd (err_ok _ h), λ h. absurd (n (agree_last rs r h.0)));
-        held = λ h. absurd (err_ok _ h);
+        taken = (λ h. absurd (cc), λ h. absurd (n (agree_last rs r h.0)));
+        held = λ h. absurd (cc);
         kept = λ e h. (at_record NameConflict e h, record { agree = agree; same = refl });
       }
       learnt (Ok s) (known w o q) = record {
-        conflict = (λ h. absurd (ok_err _ h), λ n. absurd (n w));
-        few = (λ h. absurd (ok_err _ h), λ h. absurd (o h.1));
+        conflict = (λ h. absurd (cc), λ n. absurd (n w));
+        few = (λ h. absurd (cc), λ h. absurd (o h.1));
         taken = (λ _. (agree_push rs r agree w, omega arith), λ _. refl);
         held = λ _. record { agree = agree_push rs r agree w; same = refl };
-        kept = λ e h. absurd (ok_err e h);
+        kept = λ e h. absurd (cc);
       }
       learnt (Ok s) (entered w o q l) = record {
-        conflict = (λ h. absurd (ok_err _ h), λ n. absurd (n w));
-        few = (λ h. absurd (ok_err _ h), λ h. let z : most ≤ rows_needed rs = h.2 in absurd (omega arith));
+        conflict = (λ h. absurd (cc), λ n. absurd (n w));
+        few = (λ h. absurd (cc), λ h. let z : most ≤ rows_needed rs = h.2 in absurd (omega arith));
         taken = (λ _. (agree_push rs r agree w, omega arith), λ _. refl);
         held = λ _. record { agree = agree_push rs r agree w; same = refl };
-        kept = λ e h. absurd (ok_err e h);
+        kept = λ e h. absurd (cc);
       }
       learnt (Err e) (full w o q l) = record {
         conflict = (λ h. absurd (conflict_few (sym h)), λ n. absurd (n w));
         few = (λ _. (w, o, l), λ _. refl);
-        taken = (λ h. absurd (err_ok _ h), λ h. let z : rows_needed again ≤ most = h.1 in absurd (omega arith));
-        held = λ h. absurd (err_ok _ h);
+        taken = (λ h. absurd (cc), λ h. let z : rows_needed again ≤ most = h.1 in absurd (omega arith));
+        held = λ h. absurd (cc);
         kept = λ e h. (at_record FewRows e h, record { agree = agree; same = refl });
       }
 

@@ -16,23 +16,19 @@ module _ (most : ℕ) where
   abbrev Took : List Seen → List Named → Type 0
   Took rs rows = Agree rs × (rows_needed rs ≤ most) × (rows ≡ pairs rs)
 
-  -- a refusal is not a list of rows
-  never : (k : FaultKind) (s : List Named) → ◌≡◌ {A = Result (List Named) FaultKind} (Err k) (Ok s) → ⊥
-  never k s h = let z : ◌≡◌ {A = ℕ} 0 1 = cc in omega arith
-
   -- the two refusals differ
   fault_conflict : ◌≡◌ {A = FaultKind} NameConflict FewRows → ⊥
-  fault_conflict h = let z : ◌≡◌ {A = ℕ} 16 21 = ap number_of h in omega arith
+  fault_conflict h = omega (arith, ap number_of h)
 
   module _ (b : List Seen) (r : Seen) where
     -- a step that is taken
     taken_step : (P : Type 0) (rs : List Seen) (s : List Named) → Agree b → rows_needed b ≤ most → (a : Result (List Named) FaultKind) → Outcome b r most a
         → (Agree (b ++ r ∷ []) → rows_needed (b ++ r ∷ []) ≤ most → runs most (pairs (b ++ r ∷ [])) rs ≡ Ok s → P)
         → on_ok a (λ t. runs most t rs) ≡ Ok s → P
-    taken_step P rs s g w (Err e) (disagrees n) ih h = absurd (never _ s h)
+    taken_step P rs s g w (Err e) (disagrees n) ih h = absurd (cc)
     taken_step P rs s g w (Ok t) (known a o q) ih h = ih (agree_push b r g a) (omega arith) h
     taken_step P rs s g w (Ok t) (entered a o q l) ih h = ih (agree_push b r g a) (omega arith) h
-    taken_step P rs s g w (Err e) (full a o q l) ih h = absurd (never _ s h)
+    taken_step P rs s g w (Err e) (full a o q l) ih h = absurd (cc)
 
     -- a record that agrees and finds a row is taken
     takes_step : (a : Result (List Named) FaultKind) → Outcome b r most a → AgreesWith b r → rows_needed (b ++ r ∷ []) ≤ most → a ≡ Ok (pairs (b ++ r ∷ []))
@@ -63,10 +59,6 @@ module _ (most : ℕ) where
       ∙ takes_from rs (b ++ r ∷ []) g' w'
       ∙ ap (λ bs. Ok (pairs bs)) e
 
-  -- a list of rows is not a refusal
-  not_err : (s : List Named) (k : FaultKind) → ◌≡◌ {A = Result (List Named) FaultKind} (Ok s) (Err k) → ⊥
-  not_err s k h = let z : ◌≡◌ {A = ℕ} 0 1 = cc in omega arith
-
   -- the record at which a run stops
   abbrev stop : (b : List Seen) (r : Seen) (rs : List Seen) (k : FaultKind) → Agree b → rows_needed b ≤ most → Exactly (k ≡ NameConflict) (AgreesWith b r → ⊥) → Exactly (k ≡ FewRows) (AgreesWith b r × New b r × (most ≤ rows_needed b)) → Stopped most (b ++ r ∷ rs) k
   stop b r rs k g w x y = record { before = b; here = r; after = rs; split = refl; agree = g; within = w; reason = (x, y) }
@@ -86,7 +78,7 @@ module _ (most : ℕ) where
 
   -- a run that is refused after the records b
   stopped_from : (rs b : List Seen) (k : FaultKind) → Agree b → rows_needed b ≤ most → runs most (pairs b) rs ≡ Err k → Stopped most (b ++ rs) k
-  stopped_from [] b k g w h = absurd (not_err _ k h)
+  stopped_from [] b k g w h = absurd (cc)
   stopped_from (r ∷ rs) b k g w h =
       stop_step b r rs k g w _ (outcome b r most g)
       (λ g' w' h'. subst (λ bs. Stopped most bs k) (append_assoc b (r ∷ []) rs) (stopped_from rs (b ++ r ∷ []) k g' w' h'))

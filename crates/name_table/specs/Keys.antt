@@ -13,4 +13,4 @@ no_key = record { class = 0; number = 0 }
 
 -- the part of zeros
 abbrev pub no_part : NamePart
-no_part = record { place = 0; size = 0; given = false }
+no_part = record { part = record { place = 0; size = 0 }; given = false }

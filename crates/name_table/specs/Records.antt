@@ -1,7 +1,8 @@
 -- The name records of a file, in order, and what they mean.
-use Rattle.std.specs.Prelude.{◌≡◌, ℕ, suc, Bool, cond, not, ◌&&◌, List, [], ◌∷◌, ◌++◌, length, is_some, Some, None, Option, ◌==◌, ◌≢◌}
-use Rattle.std.specs.List.{AllByRecursion as Every}
-use Rattle.keyed.specs.Firsts.{first, firsts, EachTwo}
+use Rattle.std.specs.Prelude.{◌≡◌, ℕ, Bool, not, ◌&&◌, List, [], ◌∷◌, ◌++◌, length, is_some, Option, ◌==◌, ◌≢◌}
+use Rattle.std.specs.List.{find, count_by, AllByRecursion as Every}
+use Rattle.std.specs.Option.{option_map, unwrap_or}
+use Rattle.keyed.specs.Firsts.{firsts, EachTwo}
 
 -- a name record: its class, the number that it gives, or none, and its name
 pub record Seen : Type 0 where
@@ -16,23 +17,17 @@ pub record Named : Type 0 where
   pub given : Bool
   pub name : List ℕ
 
--- how many elements pass the test
-abbrev pub count : {X : Type 0} → (X → Bool) → List X → ℕ
-count p [] = 0
-count p (x ∷ xs) = cond (p x) (suc (count p xs)) (count p xs)
-
 -- a record of the class that gives no number
 abbrev pub implicit_in : ℕ → Seen → Bool
 implicit_in c r = r.class == c && not (is_some r.given)
 
 -- the number that a record gives, or else n
 abbrev pub number_or : ℕ → Option ℕ → ℕ
-number_or n None = n
-number_or n (Some k) = k
+number_or n o = unwrap_or o n
 
 -- a record's name after the records before it: its number is given, or is how many of them are of its class and give none
 abbrev pub name_after : List Seen → Seen → Named
-name_after before r = record { class = r.class; number = number_or (count (implicit_in r.class) before) r.given; given = is_some r.given; name = r.name }
+name_after before r = record { class = r.class; number = number_or (count_by (implicit_in r.class) before) r.given; given = is_some r.given; name = r.name }
 
 -- the names of records that stand after others
 abbrev pub names_after : List Seen → List Seen → List Named
@@ -77,9 +72,8 @@ has_key c n a = a.class == c && a.number == n
 
 -- its bytes, where there is one
 abbrev pub name_of : Option Named → Option (List ℕ)
-name_of None = None
-name_of (Some a) = Some a.name
+name_of o = option_map (λ a. a.name) o
 
 -- the name that a number of the class means
 abbrev pub named : List Seen → ℕ → ℕ → Option (List ℕ)
-named rs c n = name_of (first (has_key c n) (names_of rs))
+named rs c n = name_of (find (has_key c n) (names_of rs))

@@ -6,13 +6,13 @@
 ghost use Rattle.std.specs.Prelude.{◌≡◌, List, [], length};
 ghost use Rattle.std.specs.Option.{option_map};
 ghost use Rattle.tokens.specs.Outcomes.{left_by, told};
-ghost use Rattle.keyed.specs.Firsts.{first};
+ghost use Rattle.std.specs.List.{find};
 ghost use Rattle.keyed.specs.Rows.{table as rows_of, memory, room, laid};
 ghost use Rattle.name_table.specs.Records.{Seen, has_key, name_of};
 ghost use Rattle.name_table.specs.Enter.{row_of, shown, view, seen, decided, enter_row, enter, told_at, memory_after};
 ghost use Rattle.name_table.specs.Laws.{Holds, Added, Means};
 
-use crate::compare::{any_clash, bytes_of, row_for};
+use crate::compare::{any_clash, row_for};
 use crate::row::{NameKey, NamePart, NameRow};
 use keyed::Table;
 use names::{NameClass, NameFields};
@@ -42,10 +42,10 @@ fn enter_row(
     if table.find(new.key).is_some() {
         return Ok(());
     }
-    match table.insert(new.key, new.value) {
-        Ok(_) => Ok(()),
-        Err(_) => Err(FaultKind::FewRows),
-    }
+    table
+        .insert(new.key, new.value)
+        .map(|_| ())
+        .map_err(|_| FaultKind::FewRows)
 }
 
 impl<'f, 'r> Names<'f, 'r> {
@@ -71,38 +71,34 @@ impl<'f, 'r> Names<'f, 'r> {
         ensures lender { self.new.table.rows.ghost_name ≡ self.old.table.rows.ghost_name }
     {
         let new = row_for(self.table.live(), class, fields);
-        match enter_row(self.file, &mut self.table, new) {
-            Ok(_) => Ok(()),
-            Err(kind) => Err(TokenFault { kind, place: at }),
-        }
+        enter_row(self.file, &mut self.table, new).map_err(|kind| TokenFault { kind, place: at })
     }
 
     /// Adds the name record that stands at the place `at`, or refuses it as one that disagrees or finds no row.
     pub fn add<C: NameClass>(&mut self, at: usize, fields: NameFields) -> Result<(), TokenFault>
-        ensures answer { result ≡ told_at at (enter (room self.old.table) (view self.old) (seen self.old.file.now C.NameClass.implicit fields)) }
-        ensures rows { view self.new ≡ left_by (view self.old) (enter (room self.old.table) (view self.old) (seen self.old.file.now C.NameClass.implicit fields)) }
-        ensures law { (rs : List Seen) → Holds rs (view self.old) → Added (room self.old.table) rs (seen self.old.file.now C.NameClass.implicit fields) at result (view self.new) }
-        ensures memory { memory self.new.table ≡ memory_after self.old C.NameClass.implicit fields }
+        ensures answer { result ≡ told_at at (enter (room self.old.table) (view self.old) (seen self.old.file.now C.NameClass.IMPLICIT fields)) }
+        ensures rows { view self.new ≡ left_by (view self.old) (enter (room self.old.table) (view self.old) (seen self.old.file.now C.NameClass.IMPLICIT fields)) }
+        ensures law { (rs : List Seen) → Holds rs (view self.old) → Added (room self.old.table) rs (seen self.old.file.now C.NameClass.IMPLICIT fields) at result (view self.new) }
+        ensures memory { memory self.new.table ≡ memory_after self.old C.NameClass.IMPLICIT fields }
         ensures room { room self.new.table ≡ room self.old.table }
         ensures file { self.new.file.now ≡ self.old.file.now }
         ensures lender { self.new.table.rows.ghost_name ≡ self.old.table.rows.ghost_name }
     {
-        self.take(at, C::implicit_id(), fields)
+        self.take(at, C::IMPLICIT, fields)
     }
 
     /// The name that the number means in the class, as a part of the file.
     pub fn find<C: NameClass>(&self, number: u64) -> Option<&'f [u8]>
-        ensures part { option_map (λ x. x.now) result ≡ name_of (first (has_key C.NameClass.implicit number) (view self.now)) }
-        ensures law { (rs : List Seen) → Holds rs (view self.now) → Means rs C.NameClass.implicit number (option_map (λ x. x.now) result) }
+        ensures part { option_map (λ x. x.now) result ≡ name_of (find (has_key C.NameClass.IMPLICIT number) (view self.now)) }
+        ensures law { (rs : List Seen) → Holds rs (view self.now) → Means rs C.NameClass.IMPLICIT number (option_map (λ x. x.now) result) }
     {
         let key = NameKey {
-            class: C::implicit_id(),
+            class: C::IMPLICIT,
             number,
         };
-        match self.table.get(key) {
-            Some(part) => Some(bytes_of(self.file, part)),
-            None => None,
-        }
+        self.table
+            .get(key)
+            .map(|name| name.part.bytes_in(self.file))
     }
 
     /// How many rows are in use.

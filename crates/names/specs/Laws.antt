@@ -1,9 +1,9 @@
 -- What is proved of name records, in the subject's words.
-use Rattle.std.specs.Prelude.{◌≡◌, ℕ, suc, ◌+◌, ◌≤◌, Bool, true, false, List, [], ◌++◌, length, Some, None, Option}
-use Rattle.std.specs.List.{between}
+use Rattle.std.specs.Prelude.{◌≡◌, ℕ, suc, ◌+◌, ◌≤◌, Bool, true, false, List, [], ◌++◌, Some, None, Option}
 use Rattle.tokens.specs.declared.text.StringRule.{StringRule}
 use Rattle.tokens.specs.Chains.{largest}
 use Rattle.tokens.specs.Encodings.{shortest, text_bytes, FitsText}
+use Rattle.tokens.specs.Parts.{bytes_in, text_part}
 use Rattle.tokens.specs.Readers.{Made, Back, Local}
 use Rattle.tokens.specs.Texts.{obeys}
 use Rattle.names.specs.declared.read.NameFields.{NameFields}
@@ -11,7 +11,7 @@ use Rattle.names.specs.Fields.{name_fields}
 
 -- the name that these fields mean: a part of the file
 abbrev pub name_of : List ℕ → NameFields → List ℕ
-name_of file f = between f.place (f.place + f.size) file
+name_of file f = bytes_in file f.part
 
 -- a number that a record has exactly where it gives one, and that a file can hold
 abbrev pub Numbered : (given : Bool) → Option ℕ → Type 0
@@ -22,10 +22,10 @@ Numbered false None = Unit {0}
 
 -- what holds of fields that were read at the place `at`, where n is the place after them
 pub record Sound (rule : StringRule) (given : Bool) (file : List ℕ) (at : ℕ) (f : NameFields) (n : ℕ) : Type 0 where
-  pub after : suc at ≤ f.place
-  pub inside : f.place + f.size ≤ n
+  pub after : suc at ≤ f.part.place
+  pub inside : f.part.place + f.part.size ≤ n
   pub legal : obeys rule (name_of file f) ≡ true
-  pub short : f.size ≤ largest
+  pub short : f.part.size ≤ largest
   pub number : Numbered given f.number
 
 -- a name record's fields take at least one byte; the name is a part of what they take, and obeys the rule
@@ -43,7 +43,7 @@ number_bytes None = []
 
 -- the fields of a record for the name t, at the place `at`
 abbrev pub fields_of : ℕ → List ℕ → Option ℕ → NameFields
-fields_of at t number = record { place = at + length (shortest (length t)); size = length t; number = number }
+fields_of at t number = record { part = text_part at t; number = number }
 
 -- the bytes of a name and of its number are read again
 abbrev pub NameBack : Type 0

@@ -31,8 +31,8 @@ path_is w (v ∷ vs) f = ap₂ (λ p ps. p ∷ ps) f.0.from (path_is v vs f.1 �
 -- what so many steps of a walk make
 pub walked_made : (k : ListKind) (n : ℕ) (file : List ℕ) (at : ℕ) → at ≤ length file → Made file at (walked k n file at) (λ ws m. Rolled Steady Stepped n (start k) ws)
 walked_made k n file at inside =
-    unrolled_made file (advanced k file) Steady Stepped
-    (λ at w s. made_weaken {least = suc at} (omega arith) (λ v m h p. (p.steady, p)) (advanced_made k file at w s))
+    unrolled_made file (advanced file) Steady Stepped
+    (λ at w s. made_weaken {least = suc at} (omega arith) (λ v m h p. (p.steady, p)) (advanced_made file at w s))
     n at (start k) inside (start_steady k)
 
 -- a fold over two lists

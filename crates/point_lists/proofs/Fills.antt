@@ -1,7 +1,9 @@
 -- Vertices written one after the other stand at the front of memory.
-use Rattle.std.proofs.Common.{◌≡◌, ℕ, ◌+◌, ◌<◌, ◌≤◌, List, [], ◌∷◌, ◌++◌, map, length, drop, set, ℤ, pos, ◌+ℤ◌, Ok, fold, sym, refl, ap, ◌∙◌, ap₂, append_assoc, add-zero, arith, length-append}
-use Rattle.std.proofs.lemmas.List.{append-nil, drop_more, set_at}
+use Rattle.std.proofs.Common.{◌≡◌, ℕ, ◌+◌, ◌-◌, ◌<◌, ◌≤◌, List, [], ◌∷◌, ◌++◌, map, length, take, drop, set, ℤ, pos, ◌+ℤ◌, Ok, fold, sym, refl, ap, ◌∙◌, ap₂, append_assoc, add-zero, zero-add, arith, length-append}
+use Rattle.std.proofs.lemmas.List.{append-nil, drop_more, length-map, length-take, set_at}
+use Rattle.std.proofs.Math.ListN.{drop_of_length-le}
 use Rattle.std.proofs.lemmas.Int.{ints}
+use borrow.Rule.Slice.PartMut.{put_mid}
 use Rattle.tokens.specs.Answers.{Answer, got}
 use Rattle.tokens.proofs.Chaining.{same_got}
 use Rattle.bounds.specs.declared.point.Point.{Point}
@@ -56,12 +58,32 @@ pub record Walked (p : Point) (out : List Point) (ws : List Walk) (after : List 
   pub memory : after ≡ front out (p ∷ map (λ w. sum p w.at) ws)
   pub end : last ≡ last_of origin (map (λ w. w.at) ws)
 
-pub walked-laid : (p : Point) (out : List Point) (ws : List Walk) (n : ℕ) (r : Answer (List Walk)) (after : List Point) (last : Point) (k m : ℕ) → length ws < length out → Ok (record { value = ws; next = n }) ≡ r → filled p (set out 0 p) r ≡ got (record { points = after; next = k; last = last }) m → Walked p out ws after last
-walked-laid p out ws n r after last k m h e f =
-    let begun : set out 0 p ≡ front out (p ∷ []) = front_more out [] p (omega arith) in
-    let page : fold (written p) (record { points = set out 0 p; next = 1; last = origin }) ws ≡ record { points = front out ((p ∷ []) ++ map (λ w. sum p w.at) ws); next = 1 + length ws; last = last_of origin (map (λ w. w.at) ws) } =
-    ap (λ l. fold (written p) (record { points = l; next = 1; last = origin }) ws) begun ∙ written_all p origin out (p ∷ []) ws (omega arith) in
-    let same : fold (written p) (record { points = set out 0 p; next = 1; last = origin }) ws ≡ record { points = after; next = k; last = last } =
-    (same_got (ap (filled p (set out 0 p)) e ∙ f)).0 in
-    let both = sym same ∙ page in
-    record { memory = ap (λ (g : Page). g.points) both; end = ap (λ (g : Page). g.last) both }
+-- there are c places behind the first
+pub behind-length : (p : Point) (out : List Point) (c : ℕ) → c < length out → length (take (c + 1 - 1) (drop 1 (set out 0 p))) ≡ c
+behind-length p [] c h = absurd (omega arith)
+behind-length p (o ∷ os) c h = omega (arith, length-take (c + 1 - 1) os)
+
+-- memory whose first place and whose c places after it were written
+laid_behind : (p : Point) (out ys : List Point) (c : ℕ) → c < length out → length ys ≡ c → put_mid 1 (c + 1 - 1) (set out 0 p) ys ≡ front out (p ∷ ys)
+laid_behind p [] ys c h e = absurd (omega arith)
+laid_behind p (o ∷ os) ys c h e = ap (λ k. p ∷ (ys ++ drop k os)) (omega (arith, e))
+
+-- a walk that fills memory
+whole_walk : (p q : Point) (out : List Point) (ws : List Walk) → length ws ≡ length out → fold (written p) (record { points = out; next = 0; last = q }) ws ≡ record { points = map (λ w. sum p w.at) ws; next = length ws; last = last_of q (map (λ w. w.at) ws) }
+whole_walk p q out ws e =
+    let long : length out ≤ length (map (λ w. sum p w.at) ws) = omega (arith, e, length-map ws (λ w. sum p w.at)) in
+    let all : front out (map (λ w. sum p w.at) ws) ≡ map (λ w. sum p w.at) ws =
+    ap (λ l. map (λ w. sum p w.at) ws ++ l) (drop_of_length-le out long) ∙ append-nil (map (λ w. sum p w.at) ws) in
+    written_all p q out [] ws (omega (arith, e))
+    ∙ ap₂ (λ l n. record { points = l; next = n; last = last_of q (map (λ w. w.at) ws) }) all (zero-add (length ws))
+
+pub walked-laid : (p : Point) (out slots : List Point) (ws : List Walk) (n c : ℕ) (r : ℕ → Answer (List Walk)) (ys : List Point) (last : Point) (k m : ℕ) → length ws ≡ c → length slots ≡ c → c < length out → Ok (record { value = ws; next = n }) ≡ r c → filled p slots (r (length slots)) ≡ got (record { points = ys; next = k; last = last }) m → Walked p out ws (put_mid 1 (c + 1 - 1) (set out 0 p) ys) last
+walked-laid p out slots ws n c r ys last k m many room h e f =
+    let same : fold (written p) (record { points = slots; next = 0; last = origin }) ws ≡ record { points = ys; next = k; last = last } =
+    (same_got (ap (filled p slots) (e ∙ ap r (sym room)) ∙ f)).0 in
+    let both = sym same ∙ whole_walk p origin slots ws (many ∙ sym room) in
+    let memory : ys ≡ map (λ w. sum p w.at) ws = ap (λ (g : Page). g.points) both in
+    record {
+      memory = ap (put_mid 1 (c + 1 - 1) (set out 0 p)) memory ∙ laid_behind p out (map (λ w. sum p w.at) ws) c h (length-map ws (λ w. sum p w.at) ∙ many);
+      end = ap (λ (g : Page). g.last) both;
+    }

@@ -1,5 +1,6 @@
 -- The beginning of a list.
-use Rattle.std.proofs.Common.{◌≡◌, ℕ, suc, ◌≤◌, Bool, true, leb, List, Some, None, Option, ap, ◌∙◌, arith}
+use Rattle.std.proofs.Common.{◌≡◌, ℕ, suc, ◌≤◌, Bool, true, leb, List, Some, None, Ok, Err, Option, Result, ok_or, refl, ap, ◌∙◌, arith}
+use Rattle.std.specs.Result.{result_ok}
 use Rattle.std.proofs.lemmas.Bool.{and_parts, leb-true}
 use Rattle.tokens.specs.declared.fault.FaultKind.TheVariants.{BadType}
 use Rattle.tokens.specs.Answers.{Answer, fault}
@@ -9,17 +10,26 @@ use Rattle.tokens.proofs.ChainLaws.{unsigned_made}
 use Rattle.tokens.proofs.Mades.{made_then, made_cond, made_got, made_fault, made_weaken}
 use Rattle.point_lists.specs.declared.kind.ListKind.{ListKind}
 use Rattle.point_lists.specs.declared.kind.ListKind.TheVariants.{AcrossFirst, UpFirst, Manhattan, Octangular, General, Changing}
+use Rattle.point_lists.specs.declared.kind.UnknownListType.{UnknownListType}
 use Rattle.point_lists.specs.declared.read.Head.{Head}
-use Rattle.point_lists.specs.Kinds.{list_kind, good_count}
+use Rattle.point_lists.specs.Kinds.{list_kind, decoded, good_count}
 use Rattle.point_lists.specs.Lists.{kind_or, list_head}
 
+result_ok-ok_or : {A E : Type 0} (o : Option A) (e : E) → result_ok (ok_or o e) ≡ o
+result_ok-ok_or None e = refl
+result_ok-ok_or (Some x) e = refl
+
+-- what the type decodes to says how the beginning goes on
+kind_is : {A : Type 0} {r : Answer A} (d : Result ListKind UnknownListType) (code at : ℕ) (f : ListKind → Answer A) → d ≡ decoded code → r ≡ kind_or (result_ok d) at f → r ≡ kind_or (list_kind code) at f
+kind_is d code at f e h = h ∙ ap (λ x. kind_or x at f) (ap result_ok e ∙ result_ok-ok_or (list_kind code) _)
+
 -- the type is one of a list
-pub kind_there : {A : Type 0} {k : ListKind} {o : Option ListKind} {r : Answer A} (at : ℕ) (f : ListKind → Answer A) → Some k ≡ o → r ≡ f k → r ≡ kind_or o at f
-kind_there at f e h = h ∙ ap (λ x. kind_or x at f) e
+pub kind_there : {A : Type 0} {k : ListKind} {r : Answer A} (code at : ℕ) (f : ListKind → Answer A) → Ok k ≡ decoded code → r ≡ f k → r ≡ kind_or (list_kind code) at f
+kind_there code at f e h = kind_is _ code at f e h
 
 -- it is not
-pub kind_missing : {A : Type 0} {o : Option ListKind} {r : Answer A} (at : ℕ) (f : ListKind → Answer A) → None ≡ o → r ≡ fault BadType at → r ≡ kind_or o at f
-kind_missing at f e h = h ∙ ap (λ x. kind_or x at f) e
+pub kind_missing : {A : Type 0} {u : UnknownListType} {r : Answer A} (code at : ℕ) (f : ListKind → Answer A) → Err u ≡ decoded code → r ≡ fault BadType at → r ≡ kind_or (list_kind code) at f
+kind_missing code at f e h = kind_is _ code at f e h
 
 -- what holds of a list's beginning at each type holds of it
 made_kind : {A : Type 0} {file : List ℕ} {least : ℕ} {P : A → ℕ → Type 0} (o : Option ListKind) (at : ℕ) {f : ListKind → Answer A} → ((k : ListKind) → Made file least (f k) P) → Made file least (kind_or o at f) P

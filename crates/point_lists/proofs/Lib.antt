@@ -1,3 +1,4 @@
+pub mod Oks
 pub mod Steps
 pub mod Rolls
 pub mod Heads

@@ -24,9 +24,9 @@ displacement_local Octangular across = local_then _ _ three_delta_local (λ at d
 displacement_local General across = local_then _ _ g_delta_local (λ at d. local_got _)
 displacement_local Changing across = local_then _ _ g_delta_local (λ at d. local_got _)
 
-advanced_local : (k : ListKind) (w : Walk) → Local (λ file at. advanced k file at w)
+advanced_local : (w : Walk) → Local (λ file at. advanced file at w)
 unfolding advanced
-advanced_local k w = local_then _ _ (displacement_local k w.across) (λ at d. local_cond (within far_reach (moved k w d).at) _ _ (local_got _) (local_fault _))
+advanced_local w = local_then _ _ (displacement_local w.kind w.across) (λ at d. local_cond (within far_reach (moved w d).at) _ _ (local_got _) (local_fault _))
 
 -- steps one after the other
 unrolled_local : {S : Type 0} (f : List ℕ → ℕ → S → Answer S) → ((s : S) → Local (λ file at. f file at s)) → (n : ℕ) (s : S) → Local (λ file at. unrolled (f file) n at s)
@@ -46,5 +46,5 @@ pub list_local : ListLocal
 unfolding point_list
 list_local closed =
     local_then _ _ (head_local closed)
-    (λ at h. local_then _ _ (unrolled_local (advanced h.kind) (λ w. advanced_local h.kind w) h.count (start h.kind))
+    (λ at h. local_then _ _ (unrolled_local advanced advanced_local h.count (start h.kind))
     (λ n ws. local_cond (closes h.kind closed (last_of origin (path origin (vectors ws)))) _ _ (local_got _) (local_fault _)))

@@ -46,14 +46,14 @@ displacement_made Changing across file at = paired_made file at g_delta g_delta_
 between : (a v : ℤ) → nat_abs a ≤ far_reach → nat_abs (a +ℤ v) ≤ far_reach → nat_abs v ≤ 2 * far_reach
 between a v h k = omega (arith, ints)
 
-moved_steady : (k : ListKind) (w : Walk) (d : Point) → Steady w → Near far_reach (moved k w d).at → Steady (moved k w d)
+moved_steady : (w : Walk) (d : Point) → Steady w → Near far_reach (moved w d).at → Steady (moved w d)
 unfolding moved
-moved_steady k w d s n =
+moved_steady w d s n =
     record {
       at = n;
       vector = record {
-        x = between w.at.x (vector_by k w.vector d).x s.at.x n.x;
-        y = between w.at.y (vector_by k w.vector d).y s.at.y n.y;
+        x = between w.at.x (vector_by w.kind w.vector d).x s.at.x n.x;
+        y = between w.at.y (vector_by w.kind w.vector d).y s.at.y n.y;
       };
     }
 
@@ -62,15 +62,15 @@ pub record Stepped (w v : Walk) : Type 0 where
   pub steady : Steady v
   pub from : v.at ≡ sum w.at v.vector
 
-moved-stepped : (k : ListKind) (w : Walk) (d : Point) → Steady w → Near far_reach (moved k w d).at → Stepped w (moved k w d)
+moved-stepped : (w : Walk) (d : Point) → Steady w → Near far_reach (moved w d).at → Stepped w (moved w d)
 unfolding moved
-moved-stepped k w d s n = record { steady = moved_steady k w d s n; from = refl }
+moved-stepped w d s n = record { steady = moved_steady w d s n; from = refl }
 
-pub advanced_made : (k : ListKind) (file : List ℕ) (at : ℕ) (w : Walk) → Steady w → Made file (suc at) (advanced k file at w) (λ v n. Stepped w v)
+pub advanced_made : (file : List ℕ) (at : ℕ) (w : Walk) → Steady w → Made file (suc at) (advanced file at w) (λ v n. Stepped w v)
 unfolding advanced
-advanced_made k file at w s =
-    made_then _ (displacement_made k w.across file at)
-    (λ d n l h near. made_cond (within far_reach (moved k w d).at) (λ e. made_got (moved k w d) n (omega arith) h (moved-stepped k w d s (within_near far_reach (moved k w d).at e))) (λ e. made_fault _))
+advanced_made file at w s =
+    made_then _ (displacement_made w.kind w.across file at)
+    (λ d n l h near. made_cond (within far_reach (moved w d).at) (λ e. made_got (moved w d) n (omega arith) h (moved-stepped w d s (within_near far_reach (moved w d).at e))) (λ e. made_fault _))
 
 -- a walk begins steady
 pub start_steady : (k : ListKind) → Steady (start k)

@@ -17,9 +17,9 @@ pub record Page : Type 0 where
 abbrev pub written : Point → Page → Walk → Page
 written p g w = record { points = slice_set g.points g.next (sum p w.at); next = g.next + 1; last = w.at }
 
--- the vertices of a walk written one after the other, behind the first
+-- the vertices of a walk written one after the other, for the list whose first vertex stands at p
 abbrev pub filled : Point → List Point → Answer (List Walk) → Answer Page
-filled p out r = tally (written p) (record { points = out; next = 1; last = origin }) r
+filled p out r = tally (written p) (record { points = out; next = 0; last = origin }) r
 
 -- code that ends at a walk has written all of it, and else met a fault
 abbrev pub Filled : Option Walk → List Point → Answer Page → Type 0

@@ -1,9 +1,10 @@
 -- The six types of lists, and what each asks of a polygon.
-use Rattle.std.specs.Prelude.{ℕ, ◌%◌, Bool, true, false, cond, not, ◌&&◌, ◌||◌, List, [], ◌∷◌, ℤ, pos, Some, None, Option, ◌==◌, nat_le, unsigned_abs}
+use Rattle.std.specs.Prelude.{ℕ, ◌%◌, Bool, true, false, cond, not, ◌&&◌, ◌||◌, List, [], ◌∷◌, ℤ, pos, Some, None, Option, Result, ok_or, ◌==◌, nat_le, unsigned_abs}
 use Rattle.bounds.specs.declared.point.Point.{Point}
 use Rattle.bounds.specs.Points.{point}
 use Rattle.point_lists.specs.declared.kind.ListKind.{ListKind}
 use Rattle.point_lists.specs.declared.kind.ListKind.TheVariants.{AcrossFirst, UpFirst, Manhattan, Octangular, General, Changing}
+use Rattle.point_lists.specs.declared.kind.UnknownListType.{UnknownListType}
 
 -- the kind of a list by its type
 abbrev pub list_kind : ℕ → Option ListKind
@@ -12,6 +13,10 @@ list_kind n =
     (cond (n == 1) (Some UpFirst)
     (cond (n == 2) (Some Manhattan)
     (cond (n == 3) (Some Octangular) (cond (n == 4) (Some General) (cond (n == 5) (Some Changing) None)))))
+
+-- the same, with the type in the error where no list has it
+abbrev pub decoded : ℕ → Result ListKind UnknownListType
+decoded n = ok_or (list_kind n) (record { 0 = n })
 
 -- how many displacements a list may have: a polygon two at least, and an even number where they go across and up in turn
 abbrev pub good_count : ListKind → (closed : Bool) → ℕ → Bool

@@ -42,7 +42,7 @@ list_head file at closed =
 
 -- so many displacements from the place `at` on
 abbrev pub walked : ListKind → ℕ → List ℕ → ℕ → Answer (List Walk)
-walked k n file at = unrolled (advanced k file) n at (start k)
+walked k n file at = unrolled (advanced file) n at (start k)
 
 -- the list closes from its last given vertex, or is at fault
 abbrev pub closing : ListKind → (closed : Bool) → ℕ → List Point → ℕ → Answer (List Point)

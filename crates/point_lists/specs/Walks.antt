@@ -44,16 +44,16 @@ vector_by General v d = d
 vector_by Changing v d = sum v d
 
 -- the walk, one displacement further
-unfoldable pub moved : ListKind → Walk → Point → Walk
-moved k w d = record { at = sum w.at (vector_by k w.vector d); vector = vector_by k w.vector d; across = not w.across }
+unfoldable pub moved : Walk → Point → Walk
+moved w d = record { kind = w.kind; at = sum w.at (vector_by w.kind w.vector d); vector = vector_by w.kind w.vector d; across = not w.across }
 
 -- the displacement at the place `at` leads to a vertex in far reach of the first
-abbrev pub landed : ListKind → ℕ → Walk → Point → ℕ → Answer Walk
-landed k at w d n = cond (within far_reach (moved k w d).at) (got (moved k w d) n) (fault Reach at)
+abbrev pub landed : ℕ → Walk → Point → ℕ → Answer Walk
+landed at w d n = cond (within far_reach (moved w d).at) (got (moved w d) n) (fault Reach at)
 
 -- the walk after the displacement at the place `at`
-unfoldable pub advanced : ListKind → List ℕ → ℕ → Walk → Answer Walk
-advanced k file at w = then (displacement k w.across file at) λ d n. landed k at w d n
+unfoldable pub advanced : List ℕ → ℕ → Walk → Answer Walk
+advanced file at w = then (displacement w.kind w.across file at) λ d n. landed at w d n
 
 abbrev pub across_first : ListKind → Bool
 across_first AcrossFirst = true
@@ -65,7 +65,7 @@ across_first Changing = false
 
 -- the walk at the first vertex
 abbrev pub start : ListKind → Walk
-start k = record { at = origin; vector = origin; across = across_first k }
+start k = record { kind = k; at = origin; vector = origin; across = across_first k }
 
 -- what every walk keeps: an offset in far reach, and a displacement between two such offsets
 pub record Steady (w : Walk) : Type 0 where

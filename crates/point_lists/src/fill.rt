@@ -1,42 +1,40 @@
 //! The vertices of a list written to lent memory: the list is read again at its place.
 
-ghost use Rattle.std.specs.Prelude.{◌≡◌, ℕ, ◌<◌, ◌≤◌, List, length, IfSome};
+ghost use Rattle.std.specs.Prelude.{◌≡◌, ℕ, ◌≤◌, List, length, IfSome};
 ghost use Rattle.tokens.specs.Answers.{got};
 ghost use Rattle.bounds.specs.Points.{reach, Near};
 ghost use Rattle.point_lists.specs.Walks.{Steady};
 ghost use Rattle.point_lists.specs.Lists.{walked, point_list};
 ghost use Rattle.point_lists.specs.Fills.{Filled, filled, Laid, laid_count, laid_memory};
 
-use crate::kind::{ListKind, implied_vertex};
+use crate::kind::ListKind;
 use crate::read::{read_head, read_list};
-use crate::walk::{Walk, advance, begin};
-use bounds::{Point, REACH, plus, reaches};
+use crate::walk::{Walk, advance};
+use bounds::{Point, REACH};
+use tokens::Read;
 
-// Writes the vertices after the first of a list, whose displacements begin at the place `at`, and answers the walk's end.
+// Writes the vertices after the first of a list over `out`, one for each displacement, and answers the walk's end. The
+// displacements begin at the place `at`.
 fn write_walk(
     file: &[u8],
     at: usize,
     kind: ListKind,
-    count: usize,
     first: Point,
     out: &mut [Point],
 ) -> Option<Walk>
-    requires room { count < length out.old }
-    requires near { Near reach first }
+    requires { Near reach first }
     ensures steady { IfSome result (λ w. Steady w) }
-    ensures writes { Filled result out.new (filled first out.old (walked kind count file.now at)) }
+    ensures writes { Filled result out.new (filled first out.old (walked kind (length out.old) file.now at)) }
 {
-    let mut place = at;
-    let mut walk = begin(kind);
-    for i in 0..count {
-        let Ok(step) = advance(file, place, kind, walk) else {
-            return None;
-        };
-        place = step.next;
-        walk = step.value;
-        out[i + 1] = plus(first, walk.at);
+    let mut step = Read {
+        value: Walk::begin(kind),
+        next: at,
+    };
+    for vertex in out.iter_mut() {
+        step = advance(file, step.next, step.value).ok()?;
+        *vertex = first + step.value.at;
     }
-    Some(walk)
+    Some(step.value)
 }
 
 // Writes the vertices of the list at the place `at`, of which there is room for all.
@@ -50,22 +48,20 @@ fn write_list(
     requires { Near reach first }
     ensures { (ps : List Point) (n : ℕ) → point_list file.now at closed ≡ got ps n → length ps ≤ length out.old → Laid first ps result out.old out.new }
 {
-    let Ok(head) = read_head(file, at, closed) else {
-        return None;
-    };
+    let head = read_head(file, at, closed).ok()?;
     if head.value.count >= out.len() as u64 {
         return None;
     }
     let count = head.value.count as usize;
     out[0] = first;
-    let walk = write_walk(file, head.next, head.value.kind, count, first, out)?;
-    let Some(vertex) = implied_vertex(head.value.kind, closed, walk.at) else {
+    let walk = write_walk(file, head.next, head.value.kind, first, &mut out[1..=count])?;
+    let Some(vertex) = head.value.kind.implied_vertex(closed, walk.at) else {
         return Some(count + 1);
     };
     if count + 1 >= out.len() {
         return None;
     }
-    out[count + 1] = plus(first, vertex);
+    out[count + 1] = first + vertex;
     Some(count + 2)
 }
 
@@ -82,13 +78,8 @@ pub fn fill_list(
     ensures counts { result ≡ laid_count first out.old (point_list file.now at closed) }
     ensures writes { out.new ≡ laid_memory first out.old (point_list file.now at closed) }
 {
-    let Ok(list) = read_list(file, at, closed) else {
-        return None;
-    };
-    if list.value.vertices > out.len() as u64 {
-        return None;
-    }
-    if !reaches(first, REACH) {
+    let list = read_list(file, at, closed).ok()?;
+    if list.value.vertices > out.len() as u64 || !first.reaches(REACH) {
         return None;
     }
     write_list(file, at, closed, first, out)

@@ -12,6 +12,6 @@ mod read;
 mod walk;
 
 pub use fill::fill_list;
-pub use kind::ListKind;
+pub use kind::{ListKind, UnknownListType};
 pub use laws::{laws_of_lists, worked_examples};
 pub use read::{ListSummary, read_list};

@@ -1,12 +1,12 @@
 //! A list read in one pass: how many vertices it has, and the box around them.
 
-ghost use Rattle.std.specs.Prelude.{◌≡◌, ℕ, ◌+◌, ◌<◌, ◌≤◌, length, IfOk};
+ghost use Rattle.std.specs.Prelude.{◌≡◌, ◌<◌, ◌≤◌, length, IfOk};
 ghost use Rattle.tokens.specs.Chains.{largest};
 ghost use Rattle.point_lists.specs.Rolls.{tally};
 ghost use Rattle.point_lists.specs.Lists.{list_head, walked, noted, untoured, short_of, point_list, summarised};
 
-use crate::kind::{ListKind, allows, implied_vertex, kind_of, may_close};
-use crate::walk::{advance, begin};
+use crate::kind::ListKind;
+use crate::walk::{Walk, advance};
 use bounds::{Bounds, Point};
 use tokens::{FaultKind, Read, TokenFault, read_unsigned, refuse};
 
@@ -25,66 +25,61 @@ pub struct Tour {
 }
 
 /// A list in short: how many vertices it has, and the box around them, as offsets from the first.
-#[derive(Clone, Copy)]
+#[derive(Clone, Copy, Debug, PartialEq, Eq)]
 pub struct ListSummary {
     pub vertices: u64,
     pub bounds: Bounds,
 }
 
 /// The type and the count at the place `at`.
+#[tactic(auto, using(crate::proofs::Heads::kind_there, crate::proofs::Heads::kind_missing), unfolding(crate::specs::Lists::list_head))]
 pub fn read_head(file: &[u8], at: usize, closed: bool) -> Result<Read<Head>, TokenFault>
     ensures { result ≡ list_head file.now at closed }
 {
     let code = read_unsigned(file, at)?;
-    let Some(kind) = kind_of(code.value) else {
+    let Ok(kind) = ListKind::try_from(code.value) else {
         return refuse(FaultKind::BadType, at);
     };
     let count = read_unsigned(file, code.next)?;
-    if !allows(kind, closed, count.value) {
+    if !kind.allows(closed, count.value) {
         return refuse(FaultKind::BadList, code.next);
     }
-    Ok(Read {
-        value: Head {
-            kind,
-            count: count.value,
-        },
-        next: count.next,
-    })
+    Ok(count.map(|count| Head { kind, count }))
 }
 
-// The walk along `count` displacements from the place `at`.
-fn walk_along(file: &[u8], at: usize, kind: ListKind, count: u64) -> Result<Read<Tour>, TokenFault>
-    ensures { result ≡ tally noted untoured (walked kind count file.now at) }
+// The walk along the displacements of a list with that beginning, from the place `at`.
+fn walk_along(file: &[u8], at: usize, head: Head) -> Result<Read<Tour>, TokenFault>
+    ensures { result ≡ tally noted untoured (walked head.kind head.count file.now at) }
 {
-    let mut place = at;
-    let mut walk = begin(kind);
+    let mut step = Read {
+        value: Walk::begin(head.kind),
+        next: at,
+    };
     let mut bounds = Bounds::origin();
-    for _i in 0..count {
-        let step = advance(file, place, kind, walk)?;
-        place = step.next;
-        walk = step.value;
-        bounds = bounds.grow(walk.at);
+    for _i in 0..head.count {
+        step = advance(file, step.next, step.value)?;
+        bounds = bounds.grow(step.value.at);
     }
     Ok(Read {
         value: Tour {
-            last: walk.at,
+            last: step.value.at,
             bounds,
         },
-        next: place,
+        next: step.next,
     })
 }
 
-fn summary(kind: ListKind, closed: bool, count: u64, tour: Tour) -> ListSummary
-    requires { count ≤ largest }
-    ensures { result ≡ short_of kind closed count tour }
+fn summary(head: Head, closed: bool, tour: Tour) -> ListSummary
+    requires { head.count ≤ largest }
+    ensures { result ≡ short_of head.kind closed head.count tour }
 {
-    match implied_vertex(kind, closed, tour.last) {
+    match head.kind.implied_vertex(closed, tour.last) {
         Some(p) => ListSummary {
-            vertices: count + 2,
+            vertices: head.count + 2,
             bounds: tour.bounds.grow(p),
         },
         None => ListSummary {
-            vertices: count + 1,
+            vertices: head.count + 1,
             bounds: tour.bounds,
         },
     }
@@ -94,12 +89,12 @@ fn summarise(file: &[u8], at: usize, closed: bool) -> Result<Read<ListSummary>, 
     ensures { result ≡ summarised (point_list file.now at closed) }
 {
     let head = read_head(file, at, closed)?;
-    let tour = walk_along(file, head.next, head.value.kind, head.value.count)?;
-    if !may_close(head.value.kind, closed, tour.value.last) {
+    let tour = walk_along(file, head.next, head.value)?;
+    if !head.value.kind.may_close(closed, tour.value.last) {
         return refuse(FaultKind::BadList, at);
     }
     Ok(Read {
-        value: summary(head.value.kind, closed, head.value.count, tour.value),
+        value: summary(head.value, closed, tour.value),
         next: tour.next,
     })
 }

@@ -1,12 +1,12 @@
 //! A walk from vertex to vertex.
 
-ghost use Rattle.std.specs.Prelude.{◌≡◌, ◌*◌};
-ghost use Rattle.bounds.specs.Points.{far_reach, Near};
+ghost use Rattle.std.specs.Prelude.{◌≡◌};
+ghost use Rattle.bounds.specs.Points.{Near};
 ghost use Rattle.tokens.specs.Chains.{largest};
-ghost use Rattle.point_lists.specs.Walks.{one_way, pair_of, alternate, paired, displacement, vector_by, moved, advanced, start, Steady};
+ghost use Rattle.point_lists.specs.Walks.{one_way, alternate, displacement, vector_by, moved, advanced, start, Steady};
 
 use crate::kind::ListKind;
-use bounds::{FAR_REACH, Point, plus, reaches};
+use bounds::{FAR_REACH, Point};
 use tokens::{
     FaultKind, Read, TokenFault, read_g_delta, read_signed, read_three_delta, read_two_delta,
     refuse,
@@ -15,12 +15,54 @@ use tokens::{
 /// Where a walk along a list stands.
 #[derive(Clone, Copy)]
 pub struct Walk {
+    /// The type of the list.
+    pub kind: ListKind,
     /// The offset from the first vertex.
     pub at: Point,
     /// The last displacement.
     pub vector: Point,
-    /// Whether the next displacement goes across, where they go across and up in turn.
+    /// Whether the next displacement goes across, where they go across and up in turn. A flag, since each step turns it over.
     pub across: bool,
+}
+
+impl Walk {
+    /// The walk at the first vertex.
+    pub fn begin(kind: ListKind) -> Self
+        ensures { result ≡ start kind }
+    {
+        Walk {
+            kind,
+            at: Point::ORIGIN,
+            vector: Point::ORIGIN,
+            across: kind == ListKind::AcrossFirst,
+        }
+    }
+
+    // How far the next vertex is from the last. A list of type 5 gives the change of the displacement.
+    fn vector_by(self, d: Point) -> Point
+        requires { Steady self × Near largest d }
+        ensures { result ≡ vector_by self.kind self.vector d }
+    {
+        if self.kind == ListKind::Changing {
+            self.vector + d
+        } else {
+            d
+        }
+    }
+
+    // The walk one displacement further.
+    fn moved_by(self, d: Point) -> Self
+        requires { Steady self × Near largest d }
+        ensures { result ≡ moved self d }
+    {
+        let vector = self.vector_by(d);
+        Walk {
+            at: self.at + vector,
+            vector,
+            across: !self.across,
+            ..self
+        }
+    }
 }
 
 // A displacement along one axis, which is never zero.
@@ -31,10 +73,7 @@ fn read_alternate(file: &[u8], at: usize, across: bool) -> Result<Read<Point>, T
     if d.value == 0 {
         return refuse(FaultKind::BadList, at);
     }
-    Ok(Read {
-        value: one_way(across, d.value),
-        next: d.next,
-    })
+    Ok(d.map(|size| one_way(across, size)))
 }
 
 fn one_way(across: bool, size: i64) -> Point
@@ -44,15 +83,6 @@ fn one_way(across: bool, size: i64) -> Point
         Point { x: size, y: 0 }
     } else {
         Point { x: 0, y: size }
-    }
-}
-
-fn pair_of(delta: (i64, i64)) -> Point
-    ensures { result ≡ pair_of delta }
-{
-    Point {
-        x: delta.0,
-        y: delta.1,
     }
 }
 
@@ -66,69 +96,27 @@ fn read_displacement(
     ensures { result ≡ displacement kind across file.now at }
 {
     let delta = match kind {
-        ListKind::AcrossFirst => return read_alternate(file, at, across),
-        ListKind::UpFirst => return read_alternate(file, at, across),
+        ListKind::AcrossFirst | ListKind::UpFirst => return read_alternate(file, at, across),
         ListKind::Manhattan => read_two_delta(file, at)?,
         ListKind::Octangular => read_three_delta(file, at)?,
-        ListKind::General => read_g_delta(file, at)?,
-        ListKind::Changing => read_g_delta(file, at)?,
+        ListKind::General | ListKind::Changing => read_g_delta(file, at)?,
     };
-    Ok(Read {
-        value: pair_of(delta.value),
-        next: delta.next,
-    })
-}
-
-fn vector_by(kind: ListKind, vector: Point, d: Point) -> Point
-    requires { (Near (2 * far_reach) vector) × (Near largest d) }
-    ensures { result ≡ vector_by kind vector d }
-{
-    match kind {
-        ListKind::Changing => plus(vector, d),
-        _ => d,
-    }
-}
-
-fn moved_by(kind: ListKind, walk: Walk, d: Point) -> Walk
-    requires { (Steady walk) × (Near largest d) }
-    ensures { result ≡ moved kind walk d }
-{
-    let vector = vector_by(kind, walk.vector, d);
-    Walk {
-        at: plus(walk.at, vector),
-        vector,
-        across: !walk.across,
-    }
+    Ok(delta.map(|(x, y)| Point { x, y }))
 }
 
 /// The walk after the displacement at the place `at`.
-pub fn advance(file: &[u8], at: usize, kind: ListKind, walk: Walk) -> Result<Read<Walk>, TokenFault>
+#[tactic(auto, unfolding(crate::specs::Walks::advanced))]
+pub fn advance(file: &[u8], at: usize, walk: Walk) -> Result<Read<Walk>, TokenFault>
     requires { Steady walk }
-    ensures { result ≡ advanced kind file.now at walk }
+    ensures { result ≡ advanced file.now at walk }
 {
-    let d = read_displacement(file, at, kind, walk.across)?;
-    let value = moved_by(kind, walk, d.value);
-    if reaches(value.at, FAR_REACH) {
-        Ok(Read {
-            value,
-            next: d.next,
-        })
-    } else {
-        refuse(FaultKind::Reach, at)
+    let d = read_displacement(file, at, walk.kind, walk.across)?;
+    let value = walk.moved_by(d.value);
+    if !value.at.reaches(FAR_REACH) {
+        return refuse(FaultKind::Reach, at);
     }
-}
-
-/// The walk at the first vertex.
-pub fn begin(kind: ListKind) -> Walk
-    ensures { result ≡ start kind }
-{
-    let across = match kind {
-        ListKind::AcrossFirst => true,
-        _ => false,
-    };
-    Walk {
-        at: Point { x: 0, y: 0 },
-        vector: Point { x: 0, y: 0 },
-        across,
-    }
+    Ok(Read {
+        value,
+        next: d.next,
+    })
 }

@@ -1,10 +1,11 @@
 -- The text of records and faults: a line for each, its fields with a space between them.
-use Rattle.std.specs.Prelude.{ℕ, cond, List, [], ◌∷◌, ◌++◌, take, drop, Some, None, codes, decimal, Option}
+use Rattle.std.specs.Prelude.{ℕ, cond, List, [], ◌∷◌, ◌++◌, Some, None, codes, decimal, Option}
 use Rattle.std.specs.Fmt.{signed_decimal}
 use Rattle.tokens.specs.Faults.{number_of}
-use Rattle.names.specs.declared.read.NameFields.{NameFields}
+use Rattle.tokens.specs.Parts.{bytes_in}
 use Rattle.frames.specs.declared.start.Start.{Start}
 use Rattle.frames.specs.declared.end.End.{End}
+use Rattle.frames.specs.Ends.{scheme_of, signature_of}
 use Rattle.fields.specs.declared.copies.Repeated.{Repeated}
 use Rattle.fields.specs.declared.reference.Reference.{Reference}
 use Rattle.fields.specs.declared.reference.Reference.TheVariants.{Given, Number}
@@ -34,7 +35,7 @@ abbrev pub start_fields : Start → List (List ℕ)
 start_fields s = decimal s.unit ∷ decimal (cond s.late 1 0) ∷ []
 
 abbrev pub end_fields : End → List (List ℕ)
-end_fields e = decimal e.scheme ∷ decimal e.signature ∷ []
+end_fields e = decimal (scheme_of e) ∷ decimal (signature_of e) ∷ []
 
 -- the number of a name record, where it gives one
 abbrev pub number_fields : Option ℕ → List (List ℕ)
@@ -80,10 +81,6 @@ numbers_of (content.Cell r) = []
 numbers_of (content.Mode relative) = []
 numbers_of (content.Element e) = element_fields e
 
--- where the name stands that a name record gives
-abbrev pub given_by : NameFields → Reference
-given_by n = Given (record { place = n.place; size = n.size })
-
 -- the name or the text that an element has
 abbrev pub element_name : Element → Option Reference
 element_name (element.Placement p) = Some p.cell
@@ -97,19 +94,15 @@ abbrev pub name_of : Record → Option Reference
 name_of content.Pad = None
 name_of (content.Start s) = None
 name_of (content.End e) = None
-name_of (content.CellName n) = Some (given_by n)
-name_of (content.TextString n) = Some (given_by n)
+name_of (content.CellName n) = Some (Given n.part)
+name_of (content.TextString n) = Some (Given n.part)
 name_of (content.Cell r) = Some r
 name_of (content.Mode relative) = None
 name_of (content.Element e) = element_name e
 
--- the bytes of a part of the file, as far as the file goes
-abbrev pub clip : List ℕ → ℕ → ℕ → List ℕ
-clip file place size = take size (drop place file)
-
 -- a name or a text: its bytes, or a number sign and the number that refers to it
 abbrev pub reference_text : List ℕ → Reference → List ℕ
-reference_text file (Given p) = clip file p.place p.size
+reference_text file (Given p) = bytes_in file p
 reference_text file (Number n) = 35 ∷ decimal n.number
 
 abbrev pub name_fields : List ℕ → Option Reference → List (List ℕ)

@@ -8,8 +8,8 @@ use crate::text::{append_fault, append_line};
 use runs::Walk;
 use std::alloc::{AllocError, Global};
 
-// The most bytes that a file may have here.
-const LONGEST: usize = 65_536;
+/// The most bytes that a file may have here.
+pub const LONGEST: usize = 65_536;
 
 // What is said of a longer one.
 const TOO_LONG: &str = "input longer than 65536 bytes\n";
@@ -19,23 +19,20 @@ fn lines_of(heap: Global, file: &[u8]) -> Result<Vec<u8>, AllocError>
     ensures lines { IfOk result (λ v. v.items ≡ trail_lines file.now (run file.now)) }
 {
     let mut out = Vec::new(heap);
-    let mut walk = match Walk::over(file) {
+    let walk = match Walk::over(file) {
         Ok(walk) => walk,
         Err(fault) => {
             append_fault(heap, &mut out, fault)?;
             return Ok(out);
         }
     };
-    loop {
-        match walk.next() {
-            Ok(Some(found)) => append_line(heap, &mut out, file, found)?,
-            Ok(None) => return Ok(out),
-            Err(fault) => {
-                append_fault(heap, &mut out, fault)?;
-                return Ok(out);
-            }
+    for found in walk {
+        match found {
+            Ok(found) => append_line(heap, &mut out, file, found)?,
+            Err(fault) => append_fault(heap, &mut out, fault)?,
         }
     }
+    Ok(out)
 }
 
 /// What the program prints for an input.

@@ -13,7 +13,7 @@ use std::io;
 use std::io::{Read, Write};
 
 // One byte more than a file may have, so that a longer one shows.
-const ENOUGH: u64 = 65_537;
+const ENOUGH: u64 = listing::LONGEST as u64 + 1;
 
 fn main(rt: HostRuntime) -> io::Result<()> {
     let mut file = Vec::new(rt.alloc());

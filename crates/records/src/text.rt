@@ -1,32 +1,15 @@
 //! The lines of records and faults, put behind the bytes of a buffer.
 
 ghost use Rattle.std.specs.Prelude.{◌≡◌, ◌∷◌, ◌++◌, string_bytes, OnOk};
-ghost use Rattle.records.specs.Lines.{spaced, given_by, element_name, name_of, clip, reference_text, name_fields, line_of, fault_line};
+ghost use Rattle.tokens.specs.Parts.{bytes_in};
+ghost use Rattle.records.specs.Lines.{spaced, element_name, name_of, reference_text, name_fields, line_of, fault_line};
 
-use crate::numbers::numbers_of;
+use crate::numbers::Numbers;
 use elements::Element;
-use fields::{Part, Reference};
-use names::NameFields;
+use fields::Reference;
 use std::alloc::{AllocError, Global};
 use steps::{Fault, Record, RecordAt};
-
-// The part of the file from the place `place`, as far as the file goes.
-fn clipped(file: &[u8], place: usize, size: usize) -> &[u8]
-    ensures part { result.now ≡ clip file.now place size }
-{
-    let start = place.min(file.len());
-    let rest = &file[start..];
-    &rest[..size.min(rest.len())]
-}
-
-fn given_by(name: NameFields) -> Reference
-    ensures stands { result ≡ given_by name }
-{
-    Reference::Given(Part {
-        place: name.place,
-        size: name.size,
-    })
-}
+use tokens::Part;
 
 fn element_name(element: Element) -> Option<Reference>
     ensures names { result ≡ element_name element }
@@ -44,7 +27,7 @@ fn name_of(content: Record) -> Option<Reference>
 {
     match content {
         Record::Pad | Record::Start(_) | Record::End(_) | Record::Mode(_) => None,
-        Record::CellName(name) | Record::TextString(name) => Some(given_by(name)),
+        Record::CellName(name) | Record::TextString(name) => Some(Reference::Given(name.part)),
         Record::Cell(reference) => Some(reference),
         Record::Element(element) => element_name(element),
     }
@@ -59,10 +42,10 @@ fn append_text(out: &mut Vec<u8>, text: String) -> Result<(), AllocError>
 
 // Puts a space and a part of the file behind the buffer's bytes.
 fn append_part(out: &mut Vec<u8>, file: &[u8], part: Part) -> Result<(), AllocError>
-    ensures grows { OnOk result (out.new.items ≡ out.old.items ++ (32 ∷ clip file.now part.place part.size)) }
+    ensures grows { OnOk result (out.new.items ≡ out.old.items ++ (32 ∷ bytes_in file.now part)) }
 {
     out.push(b' ')?;
-    out.extend_from_slice(clipped(file, part.place, part.size))
+    out.extend_from_slice(part.bytes_in(file))
 }
 
 fn append_reference(
@@ -75,10 +58,7 @@ fn append_reference(
 {
     match reference {
         Reference::Given(part) => append_part(out, file, part),
-        Reference::Number(by) => {
-            let number = by.number;
-            append_text(out, format!(in heap; " #{number}")?)
-        }
+        Reference::Number(by) => append_text(out, format!(in heap; " #{}", by.number)?),
     }
 }
 
@@ -97,6 +77,7 @@ fn append_name(
 }
 
 /// Puts the line of a record behind the buffer's bytes.
+// No `write!` to the buffer: its failure is one of any writer, and this one can only run out of memory.
 pub fn append_line(
     heap: Global,
     out: &mut Vec<u8>,
@@ -105,10 +86,10 @@ pub fn append_line(
 ) -> Result<(), AllocError>
     ensures grows { OnOk result (out.new.items ≡ out.old.items ++ line_of file.now found) }
 {
-    let place = found.place;
-    let id = found.id;
-    append_text(out, format!(in heap; "{place} {id}")?)?;
-    append_text(out, numbers_of(heap, found.content)?)?;
+    append_text(
+        out,
+        format!(in heap; "{} {}{}", found.place, found.id, Numbers(found.content))?,
+    )?;
     append_name(heap, out, file, found.content)?;
     out.push(b'\n')?;
     Ok(())
@@ -118,9 +99,7 @@ pub fn append_line(
 pub fn append_fault(heap: Global, out: &mut Vec<u8>, fault: Fault) -> Result<(), AllocError>
     ensures grows { OnOk result (out.new.items ≡ out.old.items ++ fault_line fault) }
 {
-    let number = fault.kind.number();
-    let place = fault.place;
-    let first = fault.first;
-    let id = fault.id;
+    let (number, place) = (fault.kind.number(), fault.place);
+    let Fault { first, id, .. } = fault;
     append_text(out, format!(in heap; "F {number} {place} {first} {id}\n")?)
 }

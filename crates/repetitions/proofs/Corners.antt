@@ -1,13 +1,12 @@
 -- The box around the copies of a matrix is that of its corners.
 use Rattle.std.proofs.Common.{◌≡◌, ℕ, ◌-◌, ◌<◌, ◌≤◌, ℤ, pos, ◌+ℤ◌, ◌*ℤ◌, ◌≤ℤ◌, ap, ◌∙◌, arith}
 use lib.IntN.{zero-*ℤ}
-use lib.Signed.{≤ℤ_refl}
 use Rattle.std.specs.Int.{int_min, int_max}
 use Rattle.std.proofs.lemmas.Int.{ints, clamps}
 use Rattle.bounds.specs.declared.point.Point.{Point}
 use Rattle.bounds.specs.declared.bounds.Bounds.{Bounds}
 use Rattle.bounds.specs.Boxes.{bounds_of}
-use Rattle.bounds.proofs.Frames.{Inside, Holds, bounds_in, bounds_out}
+use Rattle.bounds.proofs.Frames.{Inside, Holds, holds_self, bounds_in, bounds_out}
 use Rattle.repetitions.specs.declared.plan.Matrix.{Matrix}
 use Rattle.repetitions.specs.Offsets.{scaled, copy_at}
 use Rattle.repetitions.specs.Plans.{copies_of, Sized}
@@ -24,6 +23,10 @@ corners a b =
       top = int_max a.y (pos 0) +ℤ int_max b.y (pos 0);
     }
 
+-- the box, side by side
+pub corner_sides : (a b : Point) (l r m t : ℤ) → l ≡ int_min a.x (pos 0) +ℤ int_min b.x (pos 0) → r ≡ int_max a.x (pos 0) +ℤ int_max b.x (pos 0) → m ≡ int_min a.y (pos 0) +ℤ int_min b.y (pos 0) → t ≡ int_max a.y (pos 0) +ℤ int_max b.y (pos 0) → ◌≡◌ {A = Bounds} (record { left = l; right = r; bottom = m; top = t }) (corners a b)
+corner_sides a b l r m t e f g h = λ i. record { left = e i; right = f i; bottom = g i; top = h i }
+
 abbrev corners_of : Matrix → Bounds
 corners_of m = corners (scaled (m.columns - 1) m.across) (scaled (m.rows - 1) m.up)
 
@@ -35,9 +38,6 @@ same_bounds e f h k =
     let b : e.bottom ≡ f.bottom = omega (arith, ints, h.bottom, k.bottom) in
     let t : e.top ≡ f.top = omega (arith, ints, h.top, k.top) in
     λ i. record { left = l i; right = r i; bottom = b i; top = t i }
-
-holds_itself : (e : Bounds) → Holds e e
-holds_itself e = record { left = ≤ℤ_refl e.left; right = ≤ℤ_refl e.right; bottom = ≤ℤ_refl e.bottom; top = ≤ℤ_refl e.top }
 
 -- each copy is inside the corners
 copy_inside : (m : Matrix) (i j : ℕ) → i < m.columns → j < m.rows → Inside (corners_of m) (copy_at m.across m.up i j)
@@ -81,7 +81,7 @@ corners_held m e at c r =
 corners_are : (m : Matrix) → Sized m → corners_of m ≡ bounds_of (copies_of m)
 corners_are m z =
     let e = bounds_of (copies_of m) in
-    let all = bounds_out e (copies_of m) (holds_itself e) in
+    let all = bounds_out e (copies_of m) (holds_self e) in
     same_bounds (corners_of m) e
     (bounds_in (corners_of m) (copies_of m) (matrix_rooted m.across m.up m.columns m.rows z.some_columns z.some_rows)
     (rows_all m.across m.up (Inside (corners_of m)) m.columns 0 m.rows (λ i k h l. copy_inside m i k h (omega arith))))

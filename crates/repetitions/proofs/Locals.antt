@@ -14,7 +14,7 @@ use Rattle.repetitions.specs.declared.plan.Plan.{Plan}
 use Rattle.repetitions.specs.declared.plan.Plan.TheVariants.{Uniform, Listed}
 use Rattle.repetitions.specs.Offsets.{spread}
 use Rattle.repetitions.specs.Spaces.{space_at, series}
-use Rattle.repetitions.specs.Plans.{most_copies, matrix_at, line_at, grid_at, list_at, plan_from, plan, copies_of}
+use Rattle.repetitions.specs.Plans.{most_copies, matrix_at, dimension_at, line_at, grid_at, list_at, plan_from, plan, copies_of}
 use Rattle.repetitions.specs.Repetitions.{reaching, offsets, repetition}
 use Rattle.repetitions.specs.Laws.{RepetitionLocal}
 
@@ -38,15 +38,17 @@ matrix_local a b =
     from_second : (n : ℕ) → Local (λ file second. then (unsigned file second) (λ m i. cond (leb ((n + 2) * (m + 2)) most_copies) (then (space_at a file i) (λ d j. then (space_at b file j) (λ e k. got (Uniform (record { columns = n + 2; rows = m + 2; across = d; up = e })) k))) (fault Copies second)))
     from_second n = local_then unsigned _ unsigned_local (λ second m. local_cond (leb ((n + 2) * (m + 2)) most_copies) _ _ (rest n m) (local_fault _))
 
+dimension_local : Local dimension_at
+unfolding dimension_at
+dimension_local = local_then unsigned _ unsigned_local (λ at n. local_cond (leb (n + 2) most_copies) _ _ (local_got n) (local_fault _))
+
 line_local : (a : Axis) → Local (line_at a)
 unfolding line_at
 line_local a =
-    local_then unsigned _ unsigned_local (λ at n.
-    local_cond (leb (n + 2) most_copies) _ _
-    (local_then (space_at a) (λ file i d j. got (Uniform (record { columns = n + 2; rows = 1; across = d; up = origin })) j) (space_local a) (λ i d. local_got _))
-    (local_fault _))
+    local_then dimension_at _ dimension_local (λ at n.
+    local_then (space_at a) (λ file i d j. got (Uniform (record { columns = n + 2; rows = 1; across = d; up = origin })) j) (space_local a) (λ i d. local_got _))
 
-grid_local : (given : Bool) → Local (grid_at given)
+grid_local : (gridded : Bool) → Local (grid_at gridded)
 unfolding grid_at
 grid_local true = unsigned_local
 grid_local false = local_got 1
@@ -54,10 +56,8 @@ grid_local false = local_got 1
 list_local : (a : Axis) (gridded : Bool) → Local (list_at a gridded)
 unfolding list_at
 list_local a gridded =
-    local_then unsigned _ unsigned_local (λ at n.
-    local_cond (leb (n + 2) most_copies) _ _
-    (local_then (grid_at gridded) (λ file i g j. got (Listed (record { axis = a; spaces = n + 1; grid = g })) j) (grid_local gridded) (λ i g. local_got _))
-    (local_fault _))
+    local_then dimension_at _ dimension_local (λ at n.
+    local_then (grid_at gridded) (λ file i g j. got (Listed (record { axis = a; spaces = n + 1; grid = g })) j) (grid_local gridded) (λ i g. local_got _))
 
 plan_local : Local plan
 unfolding plan

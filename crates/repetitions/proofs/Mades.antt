@@ -8,7 +8,7 @@ use Rattle.tokens.specs.Chains.{largest}
 use Rattle.tokens.specs.Readers.{Made}
 use Rattle.tokens.proofs.ChainLaws.{unsigned_made}
 use Rattle.tokens.proofs.Deltas.{g_delta_made}
-use Rattle.tokens.proofs.Mades.{made_got, made_fault, made_then, made_cond, made_weaken, made_by}
+use Rattle.tokens.proofs.Mades.{made_got, made_fault, made_then, made_cond, made_less, made_by}
 use Rattle.bounds.specs.declared.point.Point.{Point}
 use Rattle.bounds.specs.Points.{far_reach, point, origin, sum, Near, all_within, Rooted, path}
 use Rattle.bounds.proofs.Fitting.{all_within_lem}
@@ -19,15 +19,11 @@ use Rattle.repetitions.specs.declared.plan.Plan.TheVariants.{Uniform, Listed}
 use Rattle.repetitions.specs.declared.summary.Summary.{Summary}
 use Rattle.repetitions.specs.Offsets.{scaled, spread}
 use Rattle.repetitions.specs.Spaces.{space_at, series}
-use Rattle.repetitions.specs.Plans.{most_copies, matrix_at, line_at, grid_at, list_at, plan_from, plan, copies_of, Sized, Sound}
+use Rattle.repetitions.specs.Plans.{most_copies, matrix_at, dimension_at, line_at, grid_at, list_at, plan_from, plan, copies_of, Sized, Sound}
 use Rattle.repetitions.specs.Repetitions.{reaching, offsets, repetition, in_short, summarised, Modest}
 use Rattle.repetitions.specs.Laws.{Copied, RepetitionMade}
 use Rattle.repetitions.proofs.Matrices.{matrix_rooted, rows_length}
 use Rattle.repetitions.proofs.Reaches.{spread-length, near_modest}
-
--- a reader from where another stopped
-after : {A : Type 0} {file : List ℕ} {at : ℕ} {r : Answer A} {P : A → ℕ → Type 0} → Made file (suc at) r P → Made file at r P
-after m = made_weaken (omega arith) (λ v n h p. p) m
 
 -- a space is at most the greatest integer on each axis
 pub space_made : (axis : Axis) (file : List ℕ) (at : ℕ) → Made file (suc at) (space_at axis file at) (λ d n. Near largest d)
@@ -59,50 +55,51 @@ matrix_made : (a b : Axis) (file : List ℕ) (at : ℕ) → Made file (suc at) (
 unfolding matrix_at
 matrix_made a b file at =
     made_then _ (unsigned_made file at) (λ n i _ _ _.
-    made_then _ (after (unsigned_made file i)) (λ m j _ _ _.
+    made_then _ (made_less (unsigned_made file i)) (λ m j _ _ _.
     made_cond (leb ((n + 2) * (m + 2)) most_copies)
-    (λ t. made_then _ (after (space_made a file j)) (λ d k _ _ f.
-    made_then _ (after (space_made b file k)) (λ e l _ h g.
+    (λ t. made_then _ (made_less (space_made a file j)) (λ d k _ _ f.
+    made_then _ (made_less (space_made b file k)) (λ e l _ h g.
     made_got (Uniform (record { columns = n + 2; rows = m + 2; across = d; up = e })) l (omega arith) h (few_sized n m d e (leb-true _ _ t) f g))))
     (λ t. made_fault _)))
+
+dimension_made : (file : List ℕ) (at : ℕ) → Made file (suc at) (dimension_at file at) (λ n i. n + 2 ≤ most_copies)
+unfolding dimension_at
+dimension_made file at =
+    made_then _ (unsigned_made file at) (λ n i _ h _.
+    made_cond (leb (n + 2) most_copies) (λ t. made_got n i (omega arith) h (leb-true _ _ t)) (λ t. made_fault _))
 
 line_made : (a : Axis) (file : List ℕ) (at : ℕ) → Made file (suc at) (line_at a file at) (λ p n. Sound p)
 unfolding line_at
 line_made a file at =
-    made_then _ (unsigned_made file at) (λ n i _ _ _.
-    made_cond (leb (n + 2) most_copies)
-    (λ t. made_then _ (after (space_made a file i)) (λ d k _ h f.
-    made_got (Uniform (record { columns = n + 2; rows = 1; across = d; up = origin })) k (omega arith) h (line-sized n d (leb-true _ _ t) f)))
-    (λ t. made_fault _))
+    made_then _ (dimension_made file at) (λ n i _ _ few.
+    made_then _ (made_less (space_made a file i)) (λ d k _ h f.
+    made_got (Uniform (record { columns = n + 2; rows = 1; across = d; up = origin })) k (omega arith) h (line-sized n d few f)))
 
-grid_made : (given : Bool) (file : List ℕ) (at : ℕ) → at ≤ length file → Made file at (grid_at given file at) (λ g n. g ≤ largest)
+grid_made : (gridded : Bool) (file : List ℕ) (at : ℕ) → at ≤ length file → Made file at (grid_at gridded file at) (λ g n. g ≤ largest)
 unfolding grid_at
-grid_made true file at h = after (unsigned_made file at)
+grid_made true file at h = made_less (unsigned_made file at)
 grid_made false file at h = made_got 1 at (omega arith) h (omega arith)
 
 list_made : (a : Axis) (gridded : Bool) (file : List ℕ) (at : ℕ) → Made file (suc at) (list_at a gridded file at) (λ p n. Sound p)
 unfolding list_at
 list_made a gridded file at =
-    made_then _ (unsigned_made file at) (λ n i _ k _.
-    made_cond (leb (n + 2) most_copies)
-    (λ t. let few = leb-true _ _ t in
+    made_then _ (dimension_made file at) (λ n i _ k few.
     made_then _ (grid_made gridded file i k) (λ g j _ h f.
     made_got (Listed (record { axis = a; spaces = n + 1; grid = g })) j (omega arith) h (record { spaces = omega arith; grid = f })))
-    (λ t. made_fault _))
 
 plan_from_made : (file : List ℕ) (first kind at : ℕ) → Made file at (plan_from file first kind at) (λ p n. Sound p)
 plan_from_made file first kind at =
-    made_cond (eqb kind 1) (λ _. after (matrix_made Across Up file at))
-    (λ _. made_cond (eqb kind 2) (λ _. after (line_made Across file at))
-    (λ _. made_cond (eqb kind 3) (λ _. after (line_made Up file at))
-    (λ _. made_cond (eqb kind 4) (λ _. after (list_made Across false file at))
-    (λ _. made_cond (eqb kind 5) (λ _. after (list_made Across true file at))
-    (λ _. made_cond (eqb kind 6) (λ _. after (list_made Up false file at))
-    (λ _. made_cond (eqb kind 7) (λ _. after (list_made Up true file at))
-    (λ _. made_cond (eqb kind 8) (λ _. after (matrix_made Both Both file at))
-    (λ _. made_cond (eqb kind 9) (λ _. after (line_made Both file at))
-    (λ _. made_cond (eqb kind 10) (λ _. after (list_made Both false file at))
-    (λ _. made_cond (eqb kind 11) (λ _. after (list_made Both true file at))
+    made_cond (eqb kind 1) (λ _. made_less (matrix_made Across Up file at))
+    (λ _. made_cond (eqb kind 2) (λ _. made_less (line_made Across file at))
+    (λ _. made_cond (eqb kind 3) (λ _. made_less (line_made Up file at))
+    (λ _. made_cond (eqb kind 4) (λ _. made_less (list_made Across false file at))
+    (λ _. made_cond (eqb kind 5) (λ _. made_less (list_made Across true file at))
+    (λ _. made_cond (eqb kind 6) (λ _. made_less (list_made Up false file at))
+    (λ _. made_cond (eqb kind 7) (λ _. made_less (list_made Up true file at))
+    (λ _. made_cond (eqb kind 8) (λ _. made_less (matrix_made Both Both file at))
+    (λ _. made_cond (eqb kind 9) (λ _. made_less (line_made Both file at))
+    (λ _. made_cond (eqb kind 10) (λ _. made_less (list_made Both false file at))
+    (λ _. made_cond (eqb kind 11) (λ _. made_less (list_made Both true file at))
     (λ _. made_fault _)))))))))))
 
 pub plan_made : (file : List ℕ) (at : ℕ) → Made file (suc at) (plan file at) (λ p n. Sound p)
@@ -114,7 +111,7 @@ pub series_made : {A : Type 0} (r : List ℕ → ℕ → Answer A) (P : A → Ty
 unfolding series
 series_made r P file m zero at h = made_got [] at (omega arith) h (refl, tt)
 series_made r P file m (suc k) at h =
-    made_then _ (after (m at)) (λ v n _ i p.
+    made_then _ (made_less (m at)) (λ v n _ i p.
     made_then _ (series_made r P file m k n i) (λ vs j _ l q. made_got (v ∷ vs) j (omega arith) l (ap suc q.0, (p, q.1))))
 
 -- offsets that were tested

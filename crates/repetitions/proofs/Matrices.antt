@@ -1,5 +1,5 @@
 -- The copies of a matrix, one by one.
-use Rattle.std.proofs.Common.{◌≡◌, ℕ, zero, suc, ◌+◌, ◌*◌, ◌<◌, ◌≤◌, List, [], ◌∷◌, ◌++◌, length, pos, ◌+ℤ◌, ◌*ℤ◌, sym, ap, subst, ⊎_elim, mul-zero, mul-suc, arith, length-append}
+use Rattle.std.proofs.Common.{◌≡◌, ℕ, zero, suc, ◌+◌, ◌*◌, ◌<◌, ◌≤◌, ◌∷◌, ◌++◌, length, pos, ◌+ℤ◌, ◌*ℤ◌, sym, ap, subst, ⊎_elim, mul-zero, mul-suc, arith, length-append}
 use lib.IntN.{zero-*ℤ}
 use Rattle.std.specs.List.{AllByRecursion as Every}
 use Rattle.std.proofs.lemmas.List.FromFn.{length-map-range_with_len}
@@ -7,12 +7,8 @@ use Rattle.std.proofs.ByRecursion.{All-append}
 use Rattle.std.proofs.lemmas.Bool.{cases_lt}
 use Rattle.bounds.specs.declared.point.Point.{Point}
 use Rattle.bounds.specs.Points.{origin, Rooted}
+use Rattle.bounds.proofs.Fitting.{all_parts}
 use Rattle.repetitions.specs.Offsets.{copy_at, row_from, rows_from, matrix}
-
--- the two parts of a list
-all_parts : (P : Point → Type 0) (xs ys : List Point) → Every P (xs ++ ys) → Every P xs × Every P ys
-all_parts P [] ys a = (tt, a)
-all_parts P (x ∷ xs) ys a = let r = all_parts P xs ys a.1 in ((a.0, r.0), r.1)
 
 module _ (across up : Point) where
   -- copy (0, 0) is the origin

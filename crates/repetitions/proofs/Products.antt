@@ -1,14 +1,11 @@
 -- A product of a natural number and an integer.
-use Rattle.std.proofs.Common.{◌≡◌, ℕ, suc, ◌*◌, ◌^◌, ◌<◌, ◌≤◌, ℤ, pos, negsuc, ◌*ℤ◌, neg_ℤ, nat_abs, ◌≤ℤ◌, sym, refl, ap, ◌∙◌, subst, mul-le-mul_right, mul-le-mul, arith, w64, SFits, to_z, of_z}
+use Rattle.std.proofs.Common.{◌≡◌, ℕ, suc, ◌*◌, ◌^◌, ◌<◌, ◌≤◌, ℤ, pos, negsuc, ◌*ℤ◌, nat_abs, ◌≤ℤ◌, sym, refl, ap, ◌∙◌, ap₂, subst, mul-le-mul_right, mul-le-mul, arith, w64, SFits, to_z, of_z}
 use mir.Syntax.{w128}
 use Rattle.std.specs.Int.{int_min, int_max}
 use Rattle.std.proofs.lemmas.Int.{ints, clamps, to_z-of_z}
 use Rattle.tokens.specs.Chains.{largest}
+use Rattle.tokens.proofs.Deltas.{size_neg}
 use Rattle.repetitions.specs.Plans.{most_copies}
-
--- a number and its negative have one size
-size_neg : (n : ℕ) → nat_abs (neg_ℤ (pos n)) ≡ n
-size_neg n = omega (arith, ints)
 
 -- the size of a product is the product of the sizes
 pub size_mul : (k : ℕ) (z : ℤ) → nat_abs (pos k *ℤ z) ≡ k * nat_abs z
@@ -46,8 +43,8 @@ module _ (k : ℕ) (z : ℤ) (h : k ≤ most_copies) (n : nat_abs z ≤ largest)
   pub mul_back : to_z w64 (of_z w64 (to_z w64 k *ℤ to_z w64 (of_z w64 z))) ≡ pos k *ℤ z
   mul_back = ap (λ y. to_z w64 (of_z w64 y)) inner ∙ to_z-of_z w64 (pos k *ℤ z) fits
 
--- any number of 64 bits times any integer of 64 bits
-module _ (k : ℕ) (z : ℤ) (h : k < 2 ^ 64) (n : SFits w64 z) where
+-- any number of 64 bits times any integer of 64 bits, both widened to 128
+module _ (k : ℕ) (z a b : ℤ) (h : k < 2 ^ 64) (n : SFits w64 z) (e : a ≡ pos k) (f : b ≡ to_z w64 (of_z w64 z)) where
   wide_fits : SFits w128 (pos k *ℤ z)
   wide_fits =
       let a : k ≤ 18446744073709551615 = omega arith in
@@ -55,14 +52,14 @@ module _ (k : ℕ) (z : ℤ) (h : k < 2 ^ 64) (n : SFits w64 z) where
       let m = mul-le-mul a b in
       omega (arith, ints, size_mul k z, m)
 
-  wide_inner : to_z w128 k *ℤ to_z w128 (of_z w128 (to_z w64 (of_z w64 z))) ≡ pos k *ℤ z
+  wide_inner : to_z w128 (of_z w128 a) *ℤ to_z w128 (of_z w128 b) ≡ pos k *ℤ z
   wide_inner =
-      let e : to_z w128 k ≡ pos k = omega (arith, ints) in
-      let f : to_z w128 (of_z w128 (to_z w64 (of_z w64 z))) ≡ z = omega (arith, ints) in
-      ap (λ y. y *ℤ to_z w128 (of_z w128 (to_z w64 (of_z w64 z)))) e ∙ ap (λ y. pos k *ℤ y) f
+      let x : to_z w128 (of_z w128 (pos k)) ≡ pos k = omega (arith, ints) in
+      let y : to_z w128 (of_z w128 (to_z w64 (of_z w64 z))) ≡ z = omega (arith, ints) in
+      ap₂ (λ a b. to_z w128 (of_z w128 a) *ℤ to_z w128 (of_z w128 b)) e f ∙ ap₂ (λ a b. a *ℤ b) x y
 
-  pub wide_room : SFits w128 (to_z w128 k *ℤ to_z w128 (of_z w128 (to_z w64 (of_z w64 z))))
+  pub wide_room : SFits w128 (to_z w128 (of_z w128 a) *ℤ to_z w128 (of_z w128 b))
   wide_room = subst (SFits w128) (sym wide_inner) wide_fits
 
-  pub wide_back : to_z w128 (of_z w128 (to_z w128 k *ℤ to_z w128 (of_z w128 (to_z w64 (of_z w64 z))))) ≡ pos k *ℤ z
+  pub wide_back : to_z w128 (of_z w128 (to_z w128 (of_z w128 a) *ℤ to_z w128 (of_z w128 b))) ≡ pos k *ℤ z
   wide_back = ap (λ y. to_z w128 (of_z w128 y)) wide_inner ∙ to_z-of_z w128 (pos k *ℤ z) wide_fits

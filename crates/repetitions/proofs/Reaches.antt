@@ -1,6 +1,5 @@
 -- Whether all copies are in reach, by their box or one by one.
-use Rattle.std.proofs.Common.{◌≡◌, ℕ, suc, ◌+◌, ◌*◌, Bool, true, false, cond, ◌&&◌, List, [], ◌∷◌, map, length, pos, neg_ℤ, Some, None, fold, Option, refl, ap, ◌∙◌, arith}
-use lib.Signed.{≤ℤ_refl}
+use Rattle.std.proofs.Common.{◌≡◌, ℕ, suc, ◌+◌, ◌*◌, Bool, true, false, cond, ◌&&◌, List, [], ◌∷◌, map, length, Some, None, fold, Option, refl, ap, ◌∙◌, arith}
 use Rattle.std.specs.List.{AllByRecursion as Every}
 use Rattle.std.proofs.ByRecursion.{All-weaker}
 use Rattle.std.proofs.lemmas.List.{length-map}
@@ -13,8 +12,8 @@ use Rattle.bounds.specs.declared.point.Point.{Point}
 use Rattle.bounds.specs.declared.bounds.Bounds.{Bounds}
 use Rattle.bounds.specs.Points.{far_reach, origin, sum, Near, within, all_within, Rooted, path}
 use Rattle.bounds.specs.Boxes.{nothing, grown, bounds_of, low_of, high_of}
-use Rattle.bounds.proofs.Frames.{Inside, Holds, folded_out, bounds_out, bounds_in}
-use Rattle.bounds.proofs.Fitting.{within_near, near_within, all_within_lem}
+use Rattle.bounds.proofs.Frames.{Inside, Holds, bounds_out, bounds_in}
+use Rattle.bounds.proofs.Fitting.{square, near_inside, inside_near, bounds_origin, within_near, near_within, all_within_lem}
 use Rattle.repetitions.specs.declared.plan.Matrix.{Matrix}
 use Rattle.repetitions.specs.declared.summary.Summary.{Summary}
 use Rattle.repetitions.specs.Offsets.{scaled, spread}
@@ -22,28 +21,6 @@ use Rattle.repetitions.specs.Repetitions.{reaching, reached, reached_by, in_shor
 use Rattle.repetitions.specs.Plans.{copies_of, Sized}
 use Rattle.repetitions.proofs.Matrices.{matrix_rooted, rows_length}
 use Rattle.repetitions.proofs.Orders.{path-length}
-
--- the points within n of the origin on each axis
-abbrev square : ℕ → Bounds
-square n = record { left = neg_ℤ (pos n); right = pos n; bottom = neg_ℤ (pos n); top = pos n }
-
-near_inside : (n : ℕ) (p : Point) → Near n p → Inside (square n) p
-near_inside n p h =
-    record {
-      left = omega (arith, ints, h.x);
-      right = omega (arith, ints, h.x);
-      bottom = omega (arith, ints, h.y);
-      top = omega (arith, ints, h.y);
-    }
-
-inside_near : (n : ℕ) (p : Point) → Inside (square n) p → Near n p
-inside_near n p h = record { x = omega (arith, ints, h.left, h.right); y = omega (arith, ints, h.bottom, h.top) }
-
--- the origin is in every box
-bounds_origin : (ps : List Point) → Holds (bounds_of ps) nothing
-bounds_origin ps =
-    let b = bounds_of ps in
-    (folded_out b nothing ps (record { left = ≤ℤ_refl b.left; right = ≤ℤ_refl b.right; bottom = ≤ℤ_refl b.bottom; top = ≤ℤ_refl b.top })).0
 
 -- a box around the origin is in a square just where its sides are near
 corners_hold : (n : ℕ) (b : Bounds) → Near n (low_of b) → Near n (high_of b) → Holds (square n) b

@@ -26,26 +26,26 @@ matrix_at a b file at =
     (then (space_at a file i) λ d j. then (space_at b file j) λ e k. got (Uniform (record { columns = n + 2; rows = m + 2; across = d; up = e })) k)
     (fault Copies second)
 
+-- the only dimension of a repetition. Too many copies are a fault of it
+unfoldable pub dimension_at : List ℕ → ℕ → Answer ℕ
+dimension_at file at = then (unsigned file at) λ n i. cond (nat_le (n + 2) most_copies) (got n i) (fault Copies at)
+
 -- one dimension, then one space: a matrix of one row
 unfoldable pub line_at : Axis → List ℕ → ℕ → Answer Plan
 line_at a file at =
-    then (unsigned file at) λ n i.
-    cond (nat_le (n + 2) most_copies)
-    (then (space_at a file i) λ d j. got (Uniform (record { columns = n + 2; rows = 1; across = d; up = origin })) j)
-    (fault Copies at)
+    then (dimension_at file at) λ n i.
+    then (space_at a file i) λ d j. got (Uniform (record { columns = n + 2; rows = 1; across = d; up = origin })) j
 
 -- a grid, or 1 where none is given
-unfoldable pub grid_at : (given : Bool) → List ℕ → ℕ → Answer ℕ
+unfoldable pub grid_at : (gridded : Bool) → List ℕ → ℕ → Answer ℕ
 grid_at true file at = unsigned file at
 grid_at false file at = got 1 at
 
 -- one dimension, and a grid where one is given
 unfoldable pub list_at : Axis → (gridded : Bool) → List ℕ → ℕ → Answer Plan
 list_at a gridded file at =
-    then (unsigned file at) λ n i.
-    cond (nat_le (n + 2) most_copies)
-    (then (grid_at gridded file i) λ g j. got (Listed (record { axis = a; spaces = n + 1; grid = g })) j)
-    (fault Copies at)
+    then (dimension_at file at) λ n i.
+    then (grid_at gridded file i) λ g j. got (Listed (record { axis = a; spaces = n + 1; grid = g })) j
 
 -- by the type, which stands at the place `first`
 abbrev pub plan_from : List ℕ → (first kind at : ℕ) → Answer Plan

@@ -1,5 +1,6 @@
 -- What a walk over the copies of a repetition has yet to give.
 use Rattle.std.specs.Prelude.{◌≡◌, ℕ, zero, suc, ◌+◌, ◌-◌, Bool, cond, ◌&&◌, List, [], ◌∷◌, ◌++◌, Some, None, Ok, Err, Option, Result, nat_le, nat_lt}
+use Rattle.std.specs.Borrow.{Bor}
 use Rattle.tokens.specs.declared.fault.TokenFault.{TokenFault}
 use Rattle.tokens.specs.Answers.{Answer}
 use Rattle.tokens.specs.Chains.{largest}
@@ -62,31 +63,27 @@ trail a grid file zero at p = []
 trail a grid file (suc k) at p = leading (standing grid p) (following (space_at a file at) λ d n. trail a grid file k n (sum p d))
 
 abbrev pub list_left : List ℕ → ListWalk → List Point
-list_left file w = trail w.axis w.grid file w.left w.place w.whole
+list_left file w = trail w.listing.axis w.listing.grid file w.left w.place w.whole
 
 abbrev pub left_of : List ℕ → Walk → List Point
 left_of file (InMatrix w) = matrix_left w
 left_of file (ByList w) = list_left file w
 
 -- what a walk has yet to give
-abbrev pub to_give : List ℕ → Copies → List Point
-to_give file c = left_of file c.walk
-
--- what a call gives of what is left before it, and leaves after it
-abbrev pub Gives : Option Point → (before after : List Point) → Type 0
-Gives (Some p) before after = before ≡ p ∷ after
-Gives None before after = (before ≡ []) × (after ≡ [])
+abbrev pub to_give : Copies → List Point
+to_give c = left_of c.file.now c.walk
 
 -- the walk over what is planned, where n is the place after the plan
-abbrev pub walk_of : Plan → ℕ → Copies
-walk_of (Uniform m) n = record { walk = InMatrix (record { matrix = m; column = 0; row = 0 }) }
-walk_of (Listed l) n = record { walk = ByList (record { axis = l.axis; grid = l.grid; left = l.spaces + 1; place = n; whole = origin }) }
+abbrev pub planned : Plan → ℕ → Walk
+planned (Uniform m) n = InMatrix (record { matrix = m; column = 0; row = 0 })
+planned (Listed l) n = ByList (record { listing = l; left = l.spaces + 1; place = n; whole = origin })
 
-abbrev pub opened : Answer Plan → Result Copies TokenFault
-opened (Ok x) = Ok (walk_of x.value x.next)
-opened (Err e) = Err e
+-- and in a file
+abbrev pub opened : Bor (List ℕ) → Answer Plan → Result Copies TokenFault
+opened file (Ok x) = Ok (record { file = file; walk = planned x.value x.next })
+opened file (Err e) = Err e
 
--- a walk was opened, and it will give these copies
+-- a walk was opened in this file, and it will give these copies
 abbrev pub OpensTo : List ℕ → Result Copies TokenFault → List Point → Type 0
-OpensTo file (Ok c) ps = to_give file c ≡ ps
+OpensTo file (Ok c) ps = (c.file.now ≡ file) × (to_give c ≡ ps)
 OpensTo file (Err e) ps = ⊥

@@ -3,8 +3,8 @@
 //! `01 00 01 0A 14` plans a matrix of two columns and three rows. `05 01 0A 03 04` plans two spaces across on a grid of 10,
 //! which stand from its place 3 on.
 
-ghost use Rattle.std.specs.Prelude.{◌≡◌, ◌+◌, ◌*◌, nat_le};
-ghost use Rattle.repetitions.specs.Plans.{most_copies, matrix_at, line_at, grid_at, list_at, plan_from, plan};
+ghost use Rattle.std.specs.Prelude.{◌≡◌, ◌+◌, ◌*◌, ◌≤◌, nat_le, IfOk};
+ghost use Rattle.repetitions.specs.Plans.{most_copies, matrix_at, dimension_at, line_at, grid_at, list_at, plan_from, plan};
 
 use crate::space::{Axis, read_space};
 use bounds::Point;
@@ -39,6 +39,7 @@ const SPACED_FREELY: u64 = 10;
 
 const GRID_FREELY: u64 = 11;
 
+// That a matrix was read stands in no ghost field: the definition of a plan builds it, and would carry the proof of each bound.
 // Copies in columns and rows: copy (i, j) is i times `across` and j times `up` from the first.
 #[derive(Clone, Copy)]
 pub struct Matrix {
@@ -73,6 +74,7 @@ fn is_few(n: u64, m: u64) -> bool
 }
 
 // A matrix whose dimensions stand at the place `at`, and its two spaces after them.
+#[tactic(auto, unfolding(crate::specs::Plans::matrix_at))]
 fn read_matrix(file: &[u8], at: usize, a: Axis, b: Axis) -> Result<Read<Plan>, TokenFault>
     ensures { result ≡ matrix_at a b file.now at }
 {
@@ -83,70 +85,71 @@ fn read_matrix(file: &[u8], at: usize, a: Axis, b: Axis) -> Result<Read<Plan>, T
     }
     let across = read_space(file, m.next, a)?;
     let up = read_space(file, across.next, b)?;
-    let matrix = Matrix {
-        columns: n.value + UNCOUNTED,
-        rows: m.value + UNCOUNTED,
-        across: across.value,
-        up: up.value,
-    };
-    Ok(Read {
-        value: Plan::Uniform(matrix),
-        next: up.next,
-    })
+    let columns = n.value + UNCOUNTED;
+    let rows = m.value + UNCOUNTED;
+    let across = across.value;
+    Ok(up.map(|up| Plan::Uniform(Matrix {
+        columns,
+        rows,
+        across,
+        up,
+    })))
 }
 
-// A line whose dimension stands at the place `at`, and its space after it: a matrix of one row.
-fn read_line(file: &[u8], at: usize, axis: Axis) -> Result<Read<Plan>, TokenFault>
-    ensures { result ≡ line_at axis file.now at }
+// The dimension at the place `at`, where it is the only one.
+#[tactic(auto, unfolding(crate::specs::Plans::dimension_at))]
+fn read_dimension(file: &[u8], at: usize) -> Result<Read<u64>, TokenFault>
+    ensures reads { result ≡ dimension_at file.now at }
+    ensures few { IfOk result (λ n. n.value + 2 ≤ most_copies) }
 {
     let n = read_unsigned(file, at)?;
     if n.value + UNCOUNTED > MOST_COPIES {
         return refuse(FaultKind::Copies, at);
     }
-    let space = read_space(file, n.next, axis)?;
-    let matrix = Matrix {
-        columns: n.value + UNCOUNTED,
-        rows: 1,
-        across: space.value,
-        up: Point { x: 0, y: 0 },
-    };
-    Ok(Read {
-        value: Plan::Uniform(matrix),
-        next: space.next,
-    })
+    Ok(n)
 }
 
-// The grid at the place `at`, or 1 where none is given.
-fn read_grid(file: &[u8], at: usize, given: bool) -> Result<Read<u64>, TokenFault>
-    ensures { result ≡ grid_at given file.now at }
+// A line whose dimension stands at the place `at`, and its space after it: a matrix of one row.
+#[tactic(auto, unfolding(crate::specs::Plans::line_at))]
+fn read_line(file: &[u8], at: usize, axis: Axis) -> Result<Read<Plan>, TokenFault>
+    ensures { result ≡ line_at axis file.now at }
 {
-    if given {
+    let n = read_dimension(file, at)?;
+    let space = read_space(file, n.next, axis)?;
+    let columns = n.value + UNCOUNTED;
+    let up = Point::ORIGIN;
+    Ok(space.map(|across| Plan::Uniform(Matrix {
+        columns,
+        rows: 1,
+        across,
+        up,
+    })))
+}
+
+// The grid at the place `at`, or 1 where none is given. A flag and no closure: the types differ in this yes or no alone.
+#[tactic(auto, unfolding(crate::specs::Plans::grid_at))]
+fn read_grid(file: &[u8], at: usize, gridded: bool) -> Result<Read<u64>, TokenFault>
+    ensures { result ≡ grid_at gridded file.now at }
+{
+    if gridded {
         return read_unsigned(file, at);
     }
     Ok(Read { value: 1, next: at })
 }
 
 // A list whose dimension stands at the place `at`, and after it a grid where one is given.
+#[tactic(auto, unfolding(crate::specs::Plans::list_at))]
 fn read_listing(file: &[u8], at: usize, axis: Axis, gridded: bool) -> Result<Read<Plan>, TokenFault>
     ensures { result ≡ list_at axis gridded file.now at }
 {
-    let n = read_unsigned(file, at)?;
-    if n.value + UNCOUNTED > MOST_COPIES {
-        return refuse(FaultKind::Copies, at);
-    }
+    let n = read_dimension(file, at)?;
     let grid = read_grid(file, n.next, gridded)?;
-    let listing = Listing {
-        axis,
-        spaces: n.value + 1,
-        grid: grid.value,
-    };
-    Ok(Read {
-        value: Plan::Listed(listing),
-        next: grid.next,
-    })
+    let spaces = n.value + 1;
+    Ok(grid.map(|grid| Plan::Listed(Listing { axis, spaces, grid })))
 }
 
-// The plan of a repetition of the type `kind`, which stands at the place `first`. Its dimensions stand at the place `at`.
+// The plan of a repetition of the type `kind`, which stands at the place `first`. Its dimensions stand at the place `at`. It is a
+// rule of the project that all types are told apart in one match over their numbers.
 fn read_planned(file: &[u8], first: usize, kind: u64, at: usize) -> Result<Read<Plan>, TokenFault>
     ensures { result ≡ plan_from file.now first kind at }
 {
@@ -167,6 +170,7 @@ fn read_planned(file: &[u8], first: usize, kind: u64, at: usize) -> Result<Read<
 }
 
 // The plan of the repetition at the place `at`.
+#[tactic(auto, unfolding(crate::specs::Plans::plan))]
 pub fn read_plan(file: &[u8], at: usize) -> Result<Read<Plan>, TokenFault>
     ensures reads { result ≡ plan file.now at }
 {

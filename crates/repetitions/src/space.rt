@@ -3,7 +3,7 @@
 //! `0A` is the space (10, 0) across and (0, 10) up. `BB 01 B7 0F` is the displacement (-46, -987).
 
 ghost use Rattle.std.specs.Prelude.{◌≡◌};
-ghost use Rattle.repetitions.specs.Spaces.{across_at, up_at, both_at, space_at};
+ghost use Rattle.repetitions.specs.Spaces.{space_at};
 
 use bounds::Point;
 use tokens::{Read, TokenFault, read_g_delta, read_unsigned};
@@ -19,50 +19,20 @@ pub enum Axis {
     Both,
 }
 
-fn read_across(file: &[u8], at: usize) -> Result<Read<Point>, TokenFault>
-    ensures { result ≡ across_at file.now at }
-{
-    let size = read_unsigned(file, at)?;
-    Ok(Read {
-        value: Point {
-            x: size.value as i64,
-            y: 0,
-        },
-        next: size.next,
-    })
-}
-
-fn read_up(file: &[u8], at: usize) -> Result<Read<Point>, TokenFault>
-    ensures { result ≡ up_at file.now at }
-{
-    let size = read_unsigned(file, at)?;
-    Ok(Read {
-        value: Point {
-            x: 0,
-            y: size.value as i64,
-        },
-        next: size.next,
-    })
-}
-
-fn read_both(file: &[u8], at: usize) -> Result<Read<Point>, TokenFault>
-    ensures { result ≡ both_at file.now at }
-{
-    let delta = read_g_delta(file, at)?;
-    let (x, y) = delta.value;
-    Ok(Read {
-        value: Point { x, y },
-        next: delta.next,
-    })
-}
-
 // The space at the place `at`.
+#[tactic(auto, unfolding(crate::specs::Spaces::space_at))]
 pub fn read_space(file: &[u8], at: usize, axis: Axis) -> Result<Read<Point>, TokenFault>
     ensures reads { result ≡ space_at axis file.now at }
 {
     match axis {
-        Axis::Across => read_across(file, at),
-        Axis::Up => read_up(file, at),
-        Axis::Both => read_both(file, at),
+        Axis::Across => Ok(read_unsigned(file, at)?.map(|size| Point {
+            x: size as i64,
+            y: 0,
+        })),
+        Axis::Up => Ok(read_unsigned(file, at)?.map(|size| Point {
+            x: 0,
+            y: size as i64,
+        })),
+        Axis::Both => Ok(read_g_delta(file, at)?.map(|(x, y)| Point { x, y })),
     }
 }

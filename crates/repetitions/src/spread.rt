@@ -11,28 +11,23 @@ ghost use Rattle.repetitions.specs.Repetitions.{reachable, reached, spaces_at, b
 
 use crate::plan::Listing;
 use crate::space::read_space;
-use bounds::{Bounds, FAR_REACH, Point, Spot, plus};
+use bounds::{Bounds, FAR_REACH, Point, Spot};
 use tokens::{Read, TokenFault};
 
+// No `From`, since it multiplies by the grid.
 fn widened(grid: u64, p: Point) -> Spot
     ensures { spot_at result ≡ scaled grid p }
 {
-    let x = grid as i128 * p.x as i128;
-    let y = grid as i128 * p.y as i128;
+    let x = i128::from(grid) * i128::from(p.x);
+    let y = i128::from(grid) * i128::from(p.y);
     Spot { x, y }
 }
 
+// No `TryFrom`, since it tests the reach, which is less than a point can hold.
 fn narrowed(place: Spot) -> Option<Point>
     ensures { result ≡ reachable (spot_at place) }
 {
-    let reach = u128::from(FAR_REACH);
-    if place.x.unsigned_abs() > reach {
-        return None;
-    }
-    if place.y.unsigned_abs() > reach {
-        return None;
-    }
-    Some(Point {
+    place.reaches(FAR_REACH).then(|| Point {
         x: place.x as i64,
         y: place.y as i64,
     })
@@ -49,10 +44,7 @@ pub fn on_grid(grid: u64, p: Point) -> Option<Point>
 fn grow_reached(bounds: Option<Bounds>, point: Option<Point>) -> Option<Bounds>
     ensures { result ≡ reached bounds point }
 {
-    match (bounds, point) {
-        (Some(b), Some(p)) => Some(b.grow(p)),
-        _ => None,
-    }
+    Some(bounds?.grow(point?))
 }
 
 // The box around the copies whose spaces stand from the place `at` on, or none where a copy is out of reach.
@@ -65,12 +57,12 @@ pub fn read_spread(
     ensures reads { result ≡ boxed listing.grid origin (Some nothing) (spaces_at listing file.now at) }
 {
     let mut place = at;
-    let mut whole = Point { x: 0, y: 0 };
+    let mut whole = Point::ORIGIN;
     let mut bounds = Some(Bounds::origin());
     for _i in 0..listing.spaces {
         let space = read_space(file, place, listing.axis)?;
         place = space.next;
-        whole = plus(whole, space.value);
+        whole = whole + space.value;
         bounds = grow_reached(bounds, on_grid(listing.grid, whole));
     }
     Ok(Read {

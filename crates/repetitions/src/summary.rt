@@ -8,14 +8,13 @@ ghost use Rattle.bounds.specs.Boxes.{low_of, high_of};
 ghost use Rattle.repetitions.specs.Plans.{most_copies, copies_of, Sized};
 ghost use Rattle.repetitions.specs.Repetitions.{reaching, listed, repetition, summarised, Modest};
 
-use crate::matrix::matrix_bounds;
 use crate::plan::{Listing, Matrix, Plan, read_plan};
 use crate::spread::read_spread;
-use bounds::{Bounds, FAR_REACH, reaches};
+use bounds::{Bounds, FAR_REACH};
 use tokens::{FaultKind, Read, TokenFault, refuse};
 
 /// A repetition in short.
-#[derive(Clone, Copy)]
+#[derive(Clone, Copy, Debug, PartialEq, Eq)]
 pub struct Summary {
     /// How many copies there are, the first one counted.
     pub copies: u64,
@@ -26,14 +25,14 @@ pub struct Summary {
 fn is_in_reach(bounds: Bounds) -> bool
     ensures { result ≡ (within far_reach (low_of bounds) && within far_reach (high_of bounds)) }
 {
-    reaches(bounds.low(), FAR_REACH) && reaches(bounds.high(), FAR_REACH)
+    bounds.low().reaches(FAR_REACH) && bounds.high().reaches(FAR_REACH)
 }
 
 fn sum_up_matrix(at: usize, matrix: Matrix, next: usize) -> Result<Read<Summary>, TokenFault>
     requires { Sized matrix }
     ensures { result ≡ summarised (reaching at (copies_of matrix) next) }
 {
-    let bounds = matrix_bounds(matrix);
+    let bounds = matrix.bounds();
     if !is_in_reach(bounds) {
         return refuse(FaultKind::Reach, at);
     }
@@ -54,19 +53,18 @@ fn sum_up_listing(
     ensures { result ≡ summarised (listed file.now at listing next) }
 {
     let spread = read_spread(file, next, listing)?;
-    match spread.value {
-        Some(bounds) => {
-            let value = Summary {
-                copies: listing.spaces + 1,
-                bounds,
-            };
-            Ok(Read {
-                value,
-                next: spread.next,
-            })
-        }
-        None => refuse(FaultKind::Reach, at),
-    }
+    let bounds = spread.value.ok_or(TokenFault {
+        kind: FaultKind::Reach,
+        place: at,
+    })?;
+    let value = Summary {
+        copies: listing.spaces + 1,
+        bounds,
+    };
+    Ok(Read {
+        value,
+        next: spread.next,
+    })
 }
 
 /// The repetition at the place `at`, in short.

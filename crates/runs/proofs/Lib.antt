@@ -2,3 +2,4 @@ pub mod Progress
 pub mod Turns
 pub mod Sequences
 pub mod Wholes
+pub mod Passes

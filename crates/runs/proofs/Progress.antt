@@ -37,10 +37,10 @@ Finishes file c f n = (c.state ≡ state.Ended → ⊥) → f.context.state ≡ 
 
 -- after these states more is due
 top_goes_on : {P : Type 0} → state.Top ≡ state.Ended → P
-top_goes_on e = let z : ◌≡◌ {A = ℕ} 0 1 = cc in absurd (omega arith)
+top_goes_on e = absurd (cc)
 
 cell_goes_on : {P : Type 0} → state.Cell ≡ state.Ended → P
-cell_goes_on e = let z : ◌≡◌ {A = ℕ} 0 1 = cc in absurd (omega arith)
+cell_goes_on e = absurd (cc)
 
 -- a cell with a name that goes on
 opened_goes : {file : List ℕ} {at : ℕ} (c : Context) {r : Answer Reference} → Onward file at r → Made file at (cell_opened c r) (Finishes file c)
@@ -92,11 +92,11 @@ module _ (file : List ℕ) where
           let same : s ≡ step_of p.at id r = cc in
           let b = o.on r refl in
           subst (λ t. Lands p t) (sym same) (b.0, b.1, b.2)
-      by_body id (Err f) o g = let z : ◌≡◌ {A = ℕ} 0 1 = cc in absurd (omega arith)
+      by_body id (Err f) o g = absurd (cc)
 
       by_id : (x : Answer ℕ) → ((y : Read ℕ) → Ok y ≡ x → (suc p.at ≤ y.next) × (y.next ≤ length file) × (y.value ≤ 17592186044415)) → Ok s ≡ on_ok (enclosed p.at 0 x) (λ id. on_ok (enclosed p.at id.value (body file p id.value id.next)) (λ r. Ok (step_of p.at id.value r))) → Lands p s
       by_id (Ok r) o g = let b = o r refl in by_body r.value _ (body_goes p r.value r.next b.0 b.1) g
-      by_id (Err t) o g = let z : ◌≡◌ {A = ℕ} 0 1 = cc in absurd (omega arith)
+      by_id (Err t) o g = absurd (cc)
 
   -- so does each turn that is a step
   pub turn_lands : (p : Position) (s : Step) → Ok (Some s) ≡ turn file p → Lands p s
@@ -104,13 +104,13 @@ module _ (file : List ℕ) where
     where
       by_step : (x : Result Step Fault) → x ≡ stepped file p → Ok (Some s) ≡ some_step x → Lands p s
       by_step (Ok t) l g = let same : s ≡ t = cc in step_lands p s (ap Ok same ∙ l)
-      by_step (Err f) l g = let z : ◌≡◌ {A = ℕ} 0 1 = cc in absurd (omega arith)
+      by_step (Err f) l g = absurd (cc)
 
       by_state : (t : FileState) → Ok (Some s) ≡ turn_in t (stepped file p) → Lands p s
       by_state state.Start g = by_step (stepped file p) refl g
       by_state state.Top g = by_step (stepped file p) refl g
       by_state state.Cell g = by_step (stepped file p) refl g
-      by_state state.Ended g = let z : ◌≡◌ {A = ℕ} 0 1 = cc in absurd (omega arith)
+      by_state state.Ended g = absurd (cc)
 
   -- what follows a step is asked only further on
   follow_same : (p : Position) (f g : Position → Trail) → ((q : Position) → p.at < q.at → q.at ≤ length file → f q ≡ g q) → follow (turn file p) f ≡ follow (turn file p) g

@@ -12,18 +12,19 @@ use Rattle.steps.specs.declared.state.RecordAt.{RecordAt}
 use Rattle.steps.specs.declared.state.Step.{Step}
 use Rattle.steps.specs.Steps.{stepped}
 use Rattle.runs.specs.Laws.{Sequence, none, next, records_of, fault_of, Readable, Faulty, long, unmarked, stuck, Tells, RunIsSequence, SequenceIsRun}
-use Rattle.runs.specs.Runs.{magic, longest, has_magic, unread, at_start, opened, some_step, turn_in, Trail, done, follow, walked, entered, run}
+use Rattle.checksum.specs.Ends.{magic, has_magic}
+use Rattle.runs.specs.Runs.{longest, unread, at_start, opened, some_step, turn_in, Trail, done, follow, walked, entered, run}
 use Rattle.runs.proofs.Progress.{turn_lands, walked_on}
 
 -- START is due, so no END was read
 start_goes_on : state.Start ≡ state.Ended → ⊥
-start_goes_on e = let z : ◌≡◌ {A = ℕ} 0 1 = cc in omega arith
+start_goes_on e = cc
 
 -- the state behind END, and all others
 ended_or_not : (t : FileState) → (P : Type 0) → (t ≡ state.Ended → P) → ((t ≡ state.Ended → ⊥) → P) → P
-ended_or_not state.Start P f g = g (λ e. let z : ◌≡◌ {A = ℕ} 0 1 = cc in omega arith)
-ended_or_not state.Top P f g = g (λ e. let z : ◌≡◌ {A = ℕ} 0 1 = cc in omega arith)
-ended_or_not state.Cell P f g = g (λ e. let z : ◌≡◌ {A = ℕ} 0 1 = cc in omega arith)
+ended_or_not state.Start P f g = g (λ e. cc)
+ended_or_not state.Top P f g = g (λ e. cc)
+ended_or_not state.Cell P f g = g (λ e. cc)
 ended_or_not state.Ended P f g = f refl
 
 -- behind END there is no step
@@ -39,11 +40,11 @@ turn_step state.Ended r d = absurd (d refl)
 
 module _ (file : List ℕ) where
   -- the records from a position behind END: none
-  walked-ended : (p : Position) → p.context.state ≡ state.Ended → walked file p ≡ done
+  pub walked-ended : (p : Position) → p.context.state ≡ state.Ended → walked file p ≡ done
   walked-ended p e = walked_on file p ∙ ap (λ t. follow t (walked file)) (turn-ended p.context.state (stepped file p) e)
 
   -- those from a position with a step
-  walked_step : (p : Position) (r : Result Step Fault) → (p.context.state ≡ state.Ended → ⊥) → stepped file p ≡ r → walked file p ≡ follow (some_step r) (walked file)
+  pub walked_step : (p : Position) (r : Result Step Fault) → (p.context.state ≡ state.Ended → ⊥) → stepped file p ≡ r → walked file p ≡ follow (some_step r) (walked file)
   walked_step p r d e = walked_on file p ∙ ap (λ t. follow t (walked file)) (turn_step p.context.state (stepped file p) d ∙ ap some_step e)
 
   -- the records of a sequence come first in the run from its position, and the run goes on from behind them
@@ -99,9 +100,7 @@ module _ (file : List ℕ) where
   not_marked : has_magic file ≡ false → (rest : List ℕ) → file ≡ magic ++ rest → ⊥
   not_marked m rest e =
       let t : has_magic file ≡ true = (bytes_eq-Decides (take 13 file) magic).1 (ap (take 13) e ∙ take_at magic rest 13 refl) in
-      let z : ◌≡◌ {A = Bool} true false = sym t ∙ m in
-      let y : ◌≡◌ {A = ℕ} 0 1 = cc in
-      omega arith
+      cc
 
   from_start : Readable file → (rs : List RecordAt) (f : Option Fault) → Ending at_start rs f → Tells file rs f
   from_start r rs None (q, t, x, y) = record { readable = r; after = q; sequence = t; ended = x; last = y }

@@ -1,65 +1,35 @@
--- What each call of a walk means for the records that are left.
-use Rattle.std.proofs.Common.{◌≡◌, ℕ, ◌<◌, ◌≤◌, List, length, IsErrAnd, Some, None, Ok, Err, Option, Result, sym, refl, ap, ◌∙◌, subst, ap₂, arith}
-use Rattle.std.proofs.lemmas.Result.{err_from_is_err_and}
-use Rattle.tokens.specs.Outcomes.{told, left_by, on_ok}
+-- What is left of a walk, by the step at its position.
+use Rattle.std.proofs.Common.{◌≡◌, ℕ, List, [], ◌∷◌, Some, None, Ok, Err, Option, Result, sym, refl, ap, ap₂, ◌∙◌}
 use Rattle.steps.specs.declared.fault.Fault.{Fault}
+use Rattle.steps.specs.declared.state.FileState.TheVariants as state
 use Rattle.steps.specs.declared.state.Position.{Position}
 use Rattle.steps.specs.declared.state.RecordAt.{RecordAt}
 use Rattle.steps.specs.declared.state.Step.{Step}
-use Rattle.runs.specs.Runs.{more, done, broken, turn, given_by, landing, follow, walked}
-use Rattle.runs.proofs.Progress.{turn_lands, walked_on}
+use Rattle.steps.specs.Steps.{stepped}
+use Rattle.runs.specs.Runs.{some_step, follow, walked}
+use Rattle.runs.specs.Walks.{outcomes, coming}
+use Rattle.runs.proofs.Sequences.{walked-ended, walked_step}
 
--- the walk went over the record r, from the position p to the position q
-pub record Went (file : List ℕ) (p q : Position) (r : RecordAt) : Type 0 where
-  pub on : walked file p ≡ more r (walked file q)
-  pub up : p.at < q.at
-  pub inside : q.at ≤ length file
+-- the record of a step, or its fault
+abbrev pub found_by : Result Step Fault → Result RecordAt Fault
+found_by (Ok s) = Ok s.found
+found_by (Err f) = Err f
 
--- a call that gave a record
-pub went : (file lent : List ℕ) (p q : Position) (r : RecordAt) (o : Option RecordAt) → lent ≡ file → o ≡ Some r → Ok o ≡ given_by (turn lent p) → q ≡ landing p (turn lent p) → Went file p q r
-went file lent p q r o same is e moved =
-    by_turn (turn file p) refl (ap Ok (sym is) ∙ e ∙ ap (λ x. given_by (turn x p)) same) (moved ∙ ap (λ x. landing p (turn x p)) same)
-  where
-    by_turn : (t : Result (Option Step) Fault) → t ≡ turn file p → Ok (Some r) ≡ given_by t → q ≡ landing p t → Went file p q r
-    by_turn (Ok (Some s)) g h m =
-        let found : s.found ≡ r = cc in
-        let l = turn_lands file p s g in
-        record {
-          on = walked_on file p ∙ ap (λ t. follow t (walked file)) (sym g) ∙ ap₂ (λ x y. more x (walked file y)) found (sym m);
-          up = subst (λ x. p.at < x.at) (sym m) l.0;
-          inside = subst (λ x. x.at ≤ length file) (sym m) l.1;
-        }
-    by_turn (Ok None) g h m = let z : ◌≡◌ {A = ℕ} 0 1 = cc in absurd (omega arith)
-    by_turn (Err x) g h m = let z : ◌≡◌ {A = ℕ} 0 1 = cc in absurd (omega arith)
+-- the position after a step, and none after a fault
+abbrev pub after_by : Result Step Fault → Option Position
+after_by (Ok s) = Some s.after
+after_by (Err f) = None
 
--- a call that gave none
-pub stopped : (file lent : List ℕ) (p : Position) (o : Option RecordAt) → lent ≡ file → o ≡ None → Ok o ≡ given_by (turn lent p) → walked file p ≡ done
-stopped file lent p o same is e = by_turn (turn file p) refl (ap Ok (sym is) ∙ e ∙ ap (λ x. given_by (turn x p)) same)
-  where
-    by_turn : (t : Result (Option Step) Fault) → t ≡ turn file p → Ok None ≡ given_by t → walked file p ≡ done
-    by_turn (Ok (Some s)) g h = let z : ◌≡◌ {A = ℕ} 0 1 = cc in absurd (omega arith)
-    by_turn (Ok None) g h = walked_on file p ∙ ap (λ t. follow t (walked file)) (sym g)
-    by_turn (Err x) g h = let z : ◌≡◌ {A = ℕ} 0 1 = cc in absurd (omega arith)
+module _ (file : List ℕ) (o : Option Position) (p : Position) where
+  -- behind END nothing is left
+  pub left-ended : o ≡ Some p → p.context.state ≡ state.Ended → coming file o ≡ []
+  left-ended is e = ap (coming file) is ∙ ap outcomes (walked-ended file p e)
 
--- a call that met a fault
-pub broke : (file lent : List ℕ) (p : Position) (x : Fault) → lent ≡ file → Err x ≡ given_by (turn lent p) → walked file p ≡ broken x
-broke file lent p x same e = by_turn (turn file p) refl (e ∙ ap (λ x. given_by (turn x p)) same)
-  where
-    by_turn : (t : Result (Option Step) Fault) → t ≡ turn file p → Err x ≡ given_by t → walked file p ≡ broken x
-    by_turn (Ok (Some s)) g h = let z : ◌≡◌ {A = ℕ} 0 1 = cc in absurd (omega arith)
-    by_turn (Ok None) g h = let z : ◌≡◌ {A = ℕ} 0 1 = cc in absurd (omega arith)
-    by_turn (Err y) g h = let same : y ≡ x = cc in walked_on file p ∙ ap (λ t. follow t (walked file)) (sym g) ∙ ap broken same
-
--- a record that was taken
-pub on_taken : {S T E : Type 0} (r : Result S E) (s : S) (f : S → Result T E) → told r ≡ Ok tt → on_ok r f ≡ f (left_by s r)
-on_taken (Ok t) s f e = refl
-on_taken (Err d) s f e = let z : ◌≡◌ {A = ℕ} 0 1 = cc in absurd (omega arith)
-
--- a record that was refused
-pub on_refused : {S T E : Type 0} (r : Result S E) (d : E) (f : S → Result T E) → told r ≡ Err d → on_ok r f ≡ Err d
-on_refused (Ok t) d f e = let z : ◌≡◌ {A = ℕ} 0 1 = cc in absurd (omega arith)
-on_refused (Err x) d f e = let z : x ≡ d = cc in ap Err z
-
--- what the exit of a `?` returns
-pub exits : {T E : Type 0} (r : Result T E) (e : E) → IsErrAnd r (λ x. x ≡ e) → r ≡ Err e
-exits r e h = let p = err_from_is_err_and r h in p.1 ∙ ap Err p.2
+  -- elsewhere what the step gives comes first, and then what comes from the position after it
+  pub left_step : (r : Result Step Fault) (found : Result RecordAt Fault) (next : Option Position) → o ≡ Some p → (p.context.state ≡ state.Ended → ⊥) → r ≡ stepped file p → found ≡ found_by r → next ≡ after_by r → coming file o ≡ found ∷ coming file next
+  left_step r found next is d e f n =
+      ap (coming file) is ∙ ap outcomes (walked_step file p r d (sym e)) ∙ by r ∙ ap₂ (λ x y. x ∷ coming file y) (sym f) (sym n)
+    where
+      by : (r : Result Step Fault) → outcomes (follow (some_step r) (walked file)) ≡ found_by r ∷ coming file (after_by r)
+      by (Ok s) = refl
+      by (Err f) = refl

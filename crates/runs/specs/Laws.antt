@@ -7,7 +7,8 @@ use Rattle.steps.specs.declared.state.Position.{Position}
 use Rattle.steps.specs.declared.state.RecordAt.{RecordAt}
 use Rattle.steps.specs.declared.state.Step.{Step}
 use Rattle.steps.specs.Steps.{stepped}
-use Rattle.runs.specs.Runs.{magic, longest, unread, at_start, turn, Trail, more, done, broken, follow, walked, run}
+use Rattle.checksum.specs.Ends.{magic}
+use Rattle.runs.specs.Runs.{longest, unread, at_start, turn, Trail, more, done, broken, follow, walked, run}
 
 -- these records stand one behind the other from the position p on, each read in the state and with the variables that the one
 -- before it leaves, and q is the position behind the last of them

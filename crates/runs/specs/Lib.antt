@@ -1,3 +1,4 @@
 pub mod Runs
 pub mod Passes
 pub mod Laws
+pub mod Walks

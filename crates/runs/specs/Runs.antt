@@ -1,6 +1,6 @@
 -- The run of a file: its records in order, to END or to the first fault.
-use Rattle.std.specs.Prelude.{ℕ, zero, suc, ◌-◌, Bool, false, cond, List, [], ◌∷◌, length, take, Some, None, Ok, Err, Option, Result, nat_le}
-use Rattle.std.specs.Str.{bytes_eq}
+use Rattle.std.specs.Prelude.{ℕ, zero, suc, ◌-◌, false, cond, List, length, Some, None, Ok, Err, Option, Result, nat_le}
+use Rattle.checksum.specs.Ends.{has_magic}
 use Rattle.tokens.specs.declared.fault.FaultKind.{FaultKind}
 use Rattle.tokens.specs.declared.fault.FaultKind.TheVariants.{TooLong, NoMagic}
 use Rattle.fields.specs.Variables.{fresh}
@@ -12,17 +12,9 @@ use Rattle.steps.specs.declared.state.RecordAt.{RecordAt}
 use Rattle.steps.specs.declared.state.Step.{Step}
 use Rattle.steps.specs.Steps.{stepped}
 
--- "%SEMI-OASIS", carriage return, line feed
-abbrev pub magic : List ℕ
-magic = 0x25 ∷ 0x53 ∷ 0x45 ∷ 0x4d ∷ 0x49 ∷ 0x2d ∷ 0x4f ∷ 0x41 ∷ 0x53 ∷ 0x49 ∷ 0x53 ∷ 0x0d ∷ 0x0a ∷ []
-
 -- the most bytes that a file may have
 abbrev pub longest : ℕ
 longest = 4294967295
-
--- whether a file begins with the magic
-abbrev pub has_magic : List ℕ → Bool
-has_magic file = bytes_eq (take 13 file) magic
 
 -- a fault of the file as a whole
 abbrev pub unread : FaultKind → Fault
@@ -51,18 +43,6 @@ turn_in state.Ended r = Ok None
 -- the step at a position, or none behind END
 abbrev pub turn : List ℕ → Position → Result (Option Step) Fault
 turn file p = turn_in p.context.state (stepped file p)
-
--- the record of a step
-abbrev pub given_by : Result (Option Step) Fault → Result (Option RecordAt) Fault
-given_by (Ok (Some s)) = Ok (Some s.found)
-given_by (Ok None) = Ok None
-given_by (Err f) = Err f
-
--- the position after a step, which is the old one where there is no step
-abbrev pub landing : Position → Result (Option Step) Fault → Position
-landing p (Ok (Some s)) = s.after
-landing p (Ok None) = p
-landing p (Err f) = p
 
 -- records in order, and how they end
 pub data Trail : Type 0 where

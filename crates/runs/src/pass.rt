@@ -25,22 +25,14 @@ pub trait Pass {
         ensures after { state self.new ≡ left_by (state self.old) (grown (state self.old) found) };
 }
 
-// Hands each record of a file to a pass, up to the first fault of the file or refusal of the pass.
-fn feed_pass<P: Pass>(file: &[u8], pass: &mut P) -> Result<(), Fault>
-    ensures runs { ended result (P.Pass.state pass.new) ≡ over P.Pass.grown (P.Pass.state pass.old) (run file.now) }
-{
-    let mut walk = Walk::over(file)?;
-    while let Some(found) = walk.next()? {
-        pass.take(found)?;
-    }
-    Ok(())
-}
-
 /// Hands each record of a file to a pass, up to the first fault of the file or refusal of the pass. Where neither comes, the
 /// file is whole: the magic, and records one behind the other up to END at its last byte.
 pub fn run_pass<P: Pass>(file: &[u8], pass: &mut P) -> Result<(), Fault>
     ensures runs { ended result (P.Pass.state pass.new) ≡ over P.Pass.grown (P.Pass.state pass.old) (run file.now) }
     ensures whole { OnOk result (Whole file.now (records_of (run file.now))) }
 {
-    feed_pass(file, pass)
+    for found in Walk::over(file)? {
+        pass.take(found?)?;
+    }
+    Ok(())
 }

@@ -1,48 +1,43 @@
 //! Repetitions: each type with small numbers, as it is read in short and copy by copy, the most copies, and the ends of the
 //! reach.
 
+use bounds::Point;
 use repetitions::{open_copies, read_repetition};
 use std::process::Abort;
 use std::test::Fail;
+use tokens::{Read, TokenFault};
 
-fn refused(rt: &impl Abort, file: &[u8], number: u8, place: usize) -> Result<(), Fail> {
-    match read_repetition(file, 0) {
-        Ok(_) => Err(Fail::new("a fault was due")),
-        Err(fault) => {
-            assert_eq!(rt; fault.kind.number(), number);
-            assert_eq!(rt; fault.place, place);
-            Ok(())
-        }
-    }
+fn refused(rt: &impl Abort, file: &[u8], number: u8, place: usize) {
+    assert_eq!(rt;
+        read_repetition(file, 0).err().map(TokenFault::told),
+        Some((number, place))
+    );
 }
 
 // The repetition has so many copies and takes the whole file.
-fn counted(rt: &impl Abort, file: &[u8], copies: u64) -> Result<(), Fail> {
-    match read_repetition(file, 0) {
-        Ok(read) => {
-            assert_eq!(rt; read.value.copies, copies);
-            assert_eq!(rt; read.next, file.len());
-            Ok(())
-        }
-        Err(_) => Err(Fail::new("a repetition was due")),
-    }
+fn counted(rt: &impl Abort, file: &[u8], copies: u64) {
+    let counted = read_repetition(file, 0).map(|read| read.map(|short| short.copies));
+    assert_eq!(rt;
+        counted,
+        Ok(Read {
+            value: copies,
+            next: file.len()
+        })
+    );
 }
 
 // The walk gives these offsets and then nothing, and no cut of the repetition is one.
 fn copied(rt: &impl Abort, file: &[u8], offsets: &[(i64, i64)]) -> Result<(), Fail> {
-    counted(rt, file, offsets.len() as u64)?;
+    counted(rt, file, offsets.len() as u64);
     let Ok(mut copies) = open_copies(file, 0) else {
         return Err(Fail::new("a walk was due"));
     };
-    for offset in offsets {
-        let Some(copy) = copies.next_copy(file) else {
-            return Err(Fail::new("a copy was due"));
-        };
-        assert_eq!(rt; copy.x, offset.0);
-        assert_eq!(rt; copy.y, offset.1);
-    }
-    assert!(rt; copies.next_copy(file).is_none());
-    assert!(rt; copies.next_copy(file).is_none());
+    assert!(rt;
+        copies
+            .by_ref()
+            .eq(offsets.iter().map(|&(x, y)| Point { x, y }))
+    );
+    assert!(rt; copies.next().is_none());
     for size in 0..file.len() {
         assert!(rt; read_repetition(&file[0..size], 0).is_err());
     }
@@ -93,42 +88,42 @@ fn listed_types(rt: HostRuntime) -> Result<(), Fail> {
 }
 
 #[test]
-fn types_and_counts(rt: HostRuntime) -> Result<(), Fail> {
-    refused(&rt, &[0x00], 11, 0)?;
-    refused(&rt, &[0x0c, 0x00], 11, 0)?;
-    counted(&rt, &[0x02, 0xfe, 0xff, 0x03, 0x00], 65_536)?;
-    refused(&rt, &[0x02, 0xff, 0xff, 0x03, 0x00], 14, 1)?;
-    counted(&rt, &[0x01, 0xfe, 0x01, 0xfe, 0x01, 0x00, 0x00], 65_536)?;
-    refused(&rt, &[0x01, 0xfe, 0x01, 0xff, 0x01, 0x00, 0x00], 14, 3)?;
-    refused(&rt, &[0x0a, 0xff, 0xff, 0x03], 14, 1)
+fn types_and_counts(rt: HostRuntime) {
+    refused(&rt, &[0x00], 11, 0);
+    refused(&rt, &[0x0c, 0x00], 11, 0);
+    counted(&rt, &[0x02, 0xfe, 0xff, 0x03, 0x00], 65_536);
+    refused(&rt, &[0x02, 0xff, 0xff, 0x03, 0x00], 14, 1);
+    counted(&rt, &[0x01, 0xfe, 0x01, 0xfe, 0x01, 0x00, 0x00], 65_536);
+    refused(&rt, &[0x01, 0xfe, 0x01, 0xff, 0x01, 0x00, 0x00], 14, 3);
+    refused(&rt, &[0x0a, 0xff, 0xff, 0x03], 14, 1);
 }
 
 #[test]
-fn the_ends_of_the_reach(rt: HostRuntime) -> Result<(), Fail> {
-    counted(&rt, &[0x02, 0x00, 0xfe, 0xff, 0xff, 0xff, 0xff, 0x3f], 2)?;
+fn the_ends_of_the_reach(rt: HostRuntime) {
+    counted(&rt, &[0x02, 0x00, 0xfe, 0xff, 0xff, 0xff, 0xff, 0x3f], 2);
     refused(
         &rt,
         &[0x02, 0x00, 0xff, 0xff, 0xff, 0xff, 0xff, 0x3f],
         13,
         0,
-    )?;
+    );
     counted(
         &rt,
         &[
             0x04, 0x01, 0xff, 0xff, 0xff, 0xff, 0xff, 0x1f, 0xff, 0xff, 0xff, 0xff, 0xff, 0x1f,
         ],
         3,
-    )?;
+    );
     refused(
         &rt,
         &[0x06, 0x01, 0xfe, 0xff, 0xff, 0xff, 0xff, 0x3f, 0x01],
         13,
         0,
-    )?;
+    );
     refused(
         &rt,
         &[0x05, 0x00, 0x02, 0xff, 0xff, 0xff, 0xff, 0xff, 0x3f],
         13,
         0,
-    )
+    );
 }

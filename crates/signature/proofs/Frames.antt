@@ -1,25 +1,16 @@
 -- A file has a signature just where it is the magic, a body and four bytes more.
-use Rattle.std.proofs.Common.{◌≡◌, ℕ, ◌+◌, ◌-◌, ◌*◌, ◌<◌, ◌≤◌, true, eqb, ltb, List, ◌++◌, length, get_or, take, drop, Ok, Err, sym, refl, ap, ◌∙◌, arith}
+use Rattle.std.proofs.Common.{◌≡◌, ℕ, ◌+◌, ◌-◌, ◌<◌, ◌≤◌, true, eqb, ltb, List, ◌++◌, length, take, drop, Ok, Err, sym, refl, ap, ◌∙◌, arith}
 use Rattle.std.specs.List.{between}
 use Rattle.std.proofs.lemmas.Slice.Eq.{bytes_eq-Decides}
-use Rattle.std.proofs.lemmas.List.{length-append, length-drop, take_at, drop_at, drop-drop, take-append-drop, at_drop_more, at_drop_all}
+use Rattle.std.proofs.lemmas.List.{length-append, length-drop, take_all, take_at, drop_at, drop-drop, take-append-drop}
 use Rattle.std.proofs.lemmas.Bool.{cond-true, cond-false, le-ltb, lt-ltb, ne_eqb}
 use Rattle.signature.specs.declared.report.Absence.TheVariants.{TooShort}
-use Rattle.signature.specs.Frames.{magic, has_magic, low_first, signed_by, Framed, signature_of, findings}
+use Rattle.checksum.specs.Ends.{magic, has_magic, low_first}
+use Rattle.signature.specs.Frames.{signed_by, Framed, signature_of, findings}
 
--- the lowest byte of a number, and the rest of it
-low_more : (file : List ℕ) (i j : ℕ) → i < length file → j ≡ i + 1 → low_first (drop i file) ≡ get_or file i 0 + 256 * low_first (drop j file)
-low_more file i j h e = at_drop_more low_first file i 0 h ∙ ap (λ k. get_or file i 0 + 256 * low_first (drop k file)) (sym e)
-
--- the number in the last four bytes
-pub low_four : (file : List ℕ) (i : ℕ) → i + 4 ≡ length file → low_first (drop i file) ≡ get_or file i 0 + get_or file (i + 1) 0 * 256 + get_or file (i + 2) 0 * 65536 + get_or file (i + 3) 0 * 16777216
-low_four file i e =
-    let a = low_more file i (i + 1) (omega arith) refl in
-    let b = low_more file (i + 1) (i + 2) (omega arith) (omega arith) in
-    let c = low_more file (i + 2) (i + 3) (omega arith) (omega arith) in
-    let d = low_more file (i + 3) (i + 4) (omega arith) (omega arith) in
-    let z = at_drop_all low_first file (i + 4) (omega arith) in
-    omega arith
+-- the last four bytes are all that stands from the fourth to last on
+pub last_four : (file : List ℕ) → 4 ≤ length file → low_first (take 4 (drop (length file - 4) file)) ≡ low_first (drop (length file - 4) file)
+last_four file h = ap low_first (take_all 4 (drop (length file - 4) file) (omega (arith, length-drop (length file - 4) file)))
 
 module _ (file body mark : List ℕ) (f : Framed file body mark) where
   framed_length : length file ≡ length body + 17

@@ -16,11 +16,15 @@ reason_of NoMagic = codes "the input does not begin with the magic bytes"
 abbrev pub line : List ℕ → List ℕ → List ℕ
 line label value = label ++ (codes ": " ++ (value ++ codes "\n"))
 
--- the checksums and whether they agree, or why there are none
-abbrev pub verdict : Result Signature Absence → List ℕ
-verdict (Ok s) =
+-- both checksums, and whether they agree
+abbrev pub checksum_lines : Signature → List ℕ
+checksum_lines s =
     line (codes "checksum") (decimal s.computed)
     ++ (line (codes "stored") (decimal s.stored) ++ line (codes "agree") (yes_no (s.computed == s.stored)))
+
+-- the checksums, or why there are none
+abbrev pub verdict : Result Signature Absence → List ℕ
+verdict (Ok s) = checksum_lines s
 verdict (Err a) = line (codes "signature") (codes "none, " ++ reason_of a)
 
 abbrev pub text_of : Report → List ℕ

@@ -13,6 +13,5 @@ use std::io::Read;
 fn main(rt: HostRuntime) -> io::Result<()> {
     let mut file = Vec::new(rt.alloc());
     rt.stdin().read_to_end(&mut file)?;
-    let report = report::examine(file.as_slice());
-    rt.print(text::text_of(rt.alloc(), report)?)
+    rt.print(report::examine(file.as_slice()))
 }

@@ -1,9 +1,11 @@
 -- The fields of each record, and what is known after it.
 use Rattle.std.specs.Prelude.{ℕ, true, false, List, ◌==◌}
+use Rattle.tokens.specs.declared.text.StringRule.{StringRule}
 use Rattle.tokens.specs.declared.text.StringRule.TheVariants.{Name, Ascii}
 use Rattle.tokens.specs.Answers.{Answer, got, then}
 use Rattle.fields.specs.declared.reference.Reference.{Reference}
 use Rattle.fields.specs.References.{string_at, number_at}
+use Rattle.names.specs.declared.read.NameFields.{NameFields}
 use Rattle.names.specs.Fields.{name_fields}
 use Rattle.frames.specs.Starts.{start}
 use Rattle.frames.specs.Ends.{end}
@@ -14,6 +16,7 @@ use Rattle.steps.specs.declared.dispatch.Action.TheVariants as action
 use Rattle.steps.specs.declared.state.Context.{Context}
 use Rattle.steps.specs.declared.state.FileState.TheVariants as state
 use Rattle.steps.specs.declared.state.Found.{Found}
+use Rattle.steps.specs.declared.state.Record.{Record}
 use Rattle.steps.specs.declared.state.Record.TheVariants as content
 use Rattle.steps.specs.States.{kept, reset, varied, moded}
 
@@ -25,13 +28,18 @@ begun file at = then (start file at) λ s n. got (reset state.Top s.late (conten
 abbrev pub closed : List ℕ → (at first : ℕ) → Context → Answer Found
 closed file at first c = then (end file at first c.late) λ e n. got (reset state.Ended c.late (content.End e)) n
 
--- a name record of cell names, which by its ID gives the number or not; no cell is open after it
+-- a name record, which by its ID gives the number or not; no cell is open after it
+abbrev pub named : StringRule → (explicit : ℕ) → (NameFields → Record) → List ℕ → ℕ → Context → (id : ℕ) → Answer Found
+named rule explicit content file at c id =
+    then (name_fields rule (id == explicit) file at) λ f n. got (reset state.Top c.late (content f)) n
+
+-- one of cell names
 abbrev pub cell_named : List ℕ → ℕ → Context → (id : ℕ) → Answer Found
-cell_named file at c id = then (name_fields Name (id == 4) file at) λ f n. got (reset state.Top c.late (content.CellName f)) n
+cell_named = named Name 4 content.CellName
 
 -- one of text strings
 abbrev pub text_named : List ℕ → ℕ → Context → (id : ℕ) → Answer Found
-text_named file at c id = then (name_fields Ascii (id == 6) file at) λ f n. got (reset state.Top c.late (content.TextString f)) n
+text_named = named Ascii 6 content.TextString
 
 -- CELL, with a name that was read: the cell is open after it
 abbrev pub cell_opened : Context → Answer Reference → Answer Found

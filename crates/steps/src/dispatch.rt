@@ -9,8 +9,8 @@ ghost use Rattle.steps.specs.Standings.{allowed};
 use crate::state::FileState;
 use tokens::FaultKind;
 
-/// What a record-ID asks for.
-#[derive(Clone, Copy)]
+/// What a record-ID asks for: a kind for each kind of record, so that the dispatch reads as the table of record-IDs.
+#[derive(Clone, Copy, Debug, PartialEq, Eq)]
 pub enum Action {
     Pad,
     Start,

@@ -6,7 +6,7 @@ ghost use Rattle.steps.specs.Steps.{enclosed};
 use tokens::{FaultKind, TokenFault};
 
 /// A fault, the place that it names, and the place and the ID of the record that it is in.
-#[derive(Clone, Copy)]
+#[derive(Clone, Copy, Debug, PartialEq, Eq)]
 pub struct Fault {
     pub kind: FaultKind,
     pub place: usize,
@@ -18,13 +18,10 @@ pub struct Fault {
 pub fn in_record<T>(r: Result<T, TokenFault>, first: usize, id: u64) -> Result<T, Fault>
     ensures encloses { result ≡ enclosed first id r }
 {
-    match r {
-        Ok(value) => Ok(value),
-        Err(e) => Err(Fault {
-            kind: e.kind,
-            place: e.place,
-            first,
-            id,
-        }),
-    }
+    r.map_err(|e| Fault {
+        kind: e.kind,
+        place: e.place,
+        first,
+        id,
+    })
 }

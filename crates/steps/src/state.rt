@@ -1,15 +1,15 @@
 //! What a record holds, and what is known between two records.
 
 ghost use Rattle.std.specs.Prelude.{◌≡◌};
-ghost use Rattle.steps.specs.States.{kept, reset as reset_to, moded};
+ghost use Rattle.steps.specs.States.{kept, reset as reset_to, varied, moded};
 
-use elements::Element;
+use elements::{Drawn, Element};
 use fields::{Modals, Reference};
 use frames::{End, Start};
 use names::NameFields;
 
 /// How far a file has come.
-#[derive(Clone, Copy, PartialEq, Eq)]
+#[derive(Clone, Copy, Debug, PartialEq, Eq)]
 pub enum FileState {
     /// Before START.
     Start,
@@ -32,7 +32,7 @@ pub enum Record {
     /// The fields of a name record of text strings.
     TextString(NameFields),
     Cell(Reference),
-    /// Whether coordinates are relative from here on.
+    /// Whether coordinates are relative from here on: the modal variable `relative` as it is after the record.
     Mode(bool),
     Element(Element),
 }
@@ -41,6 +41,7 @@ pub enum Record {
 #[derive(Clone, Copy)]
 pub struct Context {
     pub state: FileState,
+    /// The flag of START, as `read_end` takes it.
     pub late: bool,
     pub modals: Modals,
 }
@@ -74,42 +75,57 @@ pub struct Step {
     pub after: Position,
 }
 
-/// A record that changes nothing.
-pub fn keep(c: Context, content: Record) -> Found
-    ensures keeps { result ≡ kept c content }
-{
-    Found {
-        content,
-        context: c,
+impl Context {
+    /// A record that changes nothing.
+    pub(crate) fn keep(self, content: Record) -> Found
+        ensures keeps { result ≡ kept self content }
+    {
+        Found {
+            content,
+            context: self,
+        }
     }
-}
 
-/// A record that resets the modal variables, and the state after it.
-pub fn reset(state: FileState, late: bool, content: Record) -> Found
-    ensures resets { result ≡ reset_to state late content }
-{
-    Found {
-        content,
-        context: Context {
-            state,
-            late,
-            modals: Modals::reset(),
-        },
-    }
-}
-
-/// A record that says how coordinates are read from here on.
-pub fn set_mode(c: Context, relative: bool) -> Found
-    ensures sets { result ≡ moded c relative }
-{
-    Found {
-        content: Record::Mode(relative),
-        context: Context {
-            modals: Modals {
-                relative,
-                ..c.modals
+    /// A record that resets the modal variables, and the state after it.
+    pub(crate) fn reset(self, state: FileState, content: Record) -> Found
+        ensures resets { result ≡ reset_to state self.late content }
+    {
+        Found {
+            content,
+            context: Context {
+                state,
+                modals: Modals::reset(),
+                ..self
             },
-            ..c
-        },
+        }
+    }
+
+    /// An element, and the modal variables after it.
+    pub(crate) fn draw(self, drawn: Drawn) -> Found
+        ensures draws { result ≡ varied self (Record.Element drawn.element) drawn.modals }
+    {
+        Found {
+            content: Record::Element(drawn.element),
+            context: Context {
+                modals: drawn.modals,
+                ..self
+            },
+        }
+    }
+
+    /// A record that says how coordinates are read from here on.
+    pub(crate) fn set_mode(self, relative: bool) -> Found
+        ensures sets { result ≡ moded self relative }
+    {
+        Found {
+            content: Record::Mode(relative),
+            context: Context {
+                modals: Modals {
+                    relative,
+                    ..self.modals
+                },
+                ..self
+            },
+        }
     }
 }

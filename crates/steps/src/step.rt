@@ -7,16 +7,14 @@ use crate::dispatch::action_of;
 use crate::fault::{Fault, in_record};
 use crate::read::read_record;
 use crate::state::{Found, Position, RecordAt, Step};
-use tokens::{Read, TokenFault, read_unsigned, refuse};
+use tokens::{Read, TokenFault, read_unsigned};
 
 // The record with this ID at the position, whose fields stand from the place `next` on.
 fn read_body(file: &[u8], p: Position, id: u64, next: usize) -> Result<Read<Found>, TokenFault>
     ensures { result ≡ body file.now p id next }
 {
-    match action_of(p.context.state, id) {
-        Ok(action) => read_record(file, next, p.at, p.context, id, action),
-        Err(kind) => refuse(kind, p.at),
-    }
+    let action = action_of(p.context.state, id).map_err(|kind| TokenFault { kind, place: p.at })?;
+    read_record(file, next, p.at, p.context, id, action)
 }
 
 // The record that was found, and the position after it.

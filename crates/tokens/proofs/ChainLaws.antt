@@ -8,7 +8,7 @@ use Rattle.tokens.specs.Answers.{Answer, got, fault}
 use Rattle.tokens.specs.Chains.{largest, chain_bytes, radix, Chain, last, more, before, chain, placed, unsigned}
 use Rattle.tokens.specs.Faults.{number_of}
 use Rattle.tokens.specs.Laws.{ChainAt, Open, ReadsChains, ChainsAreRead, CutsExactly, WideExactly, NoOtherAnswer, UnsignedMade}
-use Rattle.tokens.specs.Readers.{Made}
+use Rattle.tokens.specs.Readers.{Made, GoesOn}
 use Rattle.tokens.proofs.Chaining.{same_got, same_fault, not_fault}
 use Rattle.tokens.proofs.Mades.{made_got, made_fault, made_by}
 
@@ -167,5 +167,5 @@ pub unsigned_made : UnsignedMade
 unsigned_made file at = made_from file at (outcome file at)
 
 -- what the reader of one promises
-pub unsigned-within : (file : List ℕ) (at : ℕ) (r : Answer ℕ) → r ≡ unsigned file at → IfOk r (λ x. (x.value ≤ largest) × (at < x.next) × (x.next ≤ length file))
-unsigned-within file at r e = made_by _ e (unsigned_made file at) (λ x l h p. (p, l, h))
+pub unsigned_within : (file : List ℕ) (at : ℕ) (r : Answer ℕ) → r ≡ unsigned file at → IfOk r (λ x. (x.value ≤ largest) × GoesOn file at x)
+unsigned_within file at r e = made_by _ e (unsigned_made file at) (λ x l h p. (p, (l, h)))

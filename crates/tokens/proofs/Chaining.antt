@@ -1,5 +1,5 @@
 -- The steps of code that goes on by `?`, against a definition that goes on by `then` and chooses by `cond`.
-use Rattle.std.proofs.Common.{◌≡◌, ℕ, Bool, true, false, cond, IsErrAnd, Ok, Err, Result, ap, ◌∙◌, arith}
+use Rattle.std.proofs.Common.{◌≡◌, ℕ, Bool, true, false, cond, IsErrAnd, Ok, Err, Result, refl, ap, ◌∙◌}
 use Rattle.std.proofs.lemmas.Result.{err_from_is_err_and}
 use Rattle.tokens.specs.declared.fault.FaultKind.{FaultKind}
 use Rattle.tokens.specs.declared.fault.Read.{Read}
@@ -13,6 +13,14 @@ going f e h = h ∙ ap (λ y. then y f) e
 -- the first reader met the fault that r is
 pub ending : {A B : Type 0} {x : TokenFault} {a : Answer A} {r : Answer B} (f : A → ℕ → Answer B) → Err x ≡ a → r ≡ Err x → r ≡ then a f
 ending f e h = h ∙ ap (λ y. then y f) e
+
+-- a value and the place after it
+pub is_got : {B : Type 0} {y : Read B} {w : B} {n : ℕ} → y.value ≡ w → y.next ≡ n → Ok y ≡ got w n
+is_got {y = y} {w = w} v n = ap (λ w. got w y.next) v ∙ ap (λ m. got w m) n
+
+-- the first reader read x, and what is made of its value stands at the same place
+pub mapped : {A B : Type 0} {x : Read A} {y : Read B} {a : Answer A} (g : A → B) → Ok x ≡ a → y.value ≡ g x.value → y.next ≡ x.next → Ok y ≡ then a (λ v n. got (g v) n)
+mapped {x = x} {y = y} g e v n = going _ e (is_got v n)
 
 -- the test came out true
 pub first_way : {A : Type 0} {b : Bool} {x r : A} (y : A) → true ≡ b → r ≡ x → r ≡ cond b x y
@@ -40,4 +48,9 @@ same_fault {j = j} {k = k} {p = p} {q = q} e =
 
 -- no value is a fault
 pub not_fault : {A : Type 0} {P : Type 0} {x : Read A} {e : TokenFault} → ◌≡◌ {A = Answer A} (Ok x) (Err e) → P
-not_fault e = let z : ◌≡◌ {A = ℕ} 0 1 = cc in absurd (omega arith)
+not_fault e = absurd (cc)
+
+-- a value comes only where the test came out true
+pub passed : {A : Type 0} (b : Bool) {x : Read A} (a : Answer A) (d : TokenFault) → Ok x ≡ cond b a (Err d) → (b ≡ true) × (Ok x ≡ a)
+passed true a d e = (refl, e)
+passed false a d e = not_fault e

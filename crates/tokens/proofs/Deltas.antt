@@ -1,17 +1,17 @@
 -- Lemmas on signed integers and displacements.
-use Rattle.std.proofs.Common.{◌≡◌, ℕ, zero, suc, ◌/◌, ◌%◌, ◌<◌, ◌≤◌, List, [], ◌∷◌, length, get_or, ℤ, pos, neg_ℤ, nat_abs, IfOk, refl, arith}
+use Rattle.std.proofs.Common.{◌≡◌, ℕ, zero, suc, ◌/◌, ◌%◌, ◌≤◌, List, [], ◌∷◌, get_or, ℤ, pos, neg_ℤ, nat_abs, refl, arith}
 use Rattle.std.specs.List.{AllByRecursion as Every}
 use Rattle.std.proofs.lemmas.Bool.{cond_both}
-use Rattle.tokens.specs.Answers.{Answer, got, then}
+use Rattle.tokens.specs.Answers.{got, then}
 use Rattle.tokens.specs.Chains.{largest, unsigned}
-use Rattle.tokens.specs.Deltas.{largest_size, even, signed_of, signed, straight_ways, all_ways, toward, straight, octangular, two_delta, three_delta, g_delta}
-use Rattle.tokens.specs.Laws.{SignedMade, Sizes, DeltaMade}
+use Rattle.tokens.specs.Deltas.{largest_size, Sizes, even, signed_of, signed, straight_ways, all_ways, toward, straight, octangular, two_delta, three_delta, g_delta}
+use Rattle.tokens.specs.Laws.{SignedMade, DeltaMade}
 use Rattle.tokens.specs.Readers.{Made}
 use Rattle.tokens.proofs.ChainLaws.{unsigned_made}
-use Rattle.tokens.proofs.Mades.{made_got, made_then, made_cond, made_less, made_by}
+use Rattle.tokens.proofs.Mades.{made_got, made_then, made_cond, made_less}
 
 -- a number and its negative have one size
-size_neg : (n : ℕ) → nat_abs (neg_ℤ (pos n)) ≡ n
+pub size_neg : (n : ℕ) → nat_abs (neg_ℤ (pos n)) ≡ n
 size_neg zero = refl
 size_neg (suc n) = refl
 
@@ -65,11 +65,3 @@ g_delta_made file at =
     (λ e.
     made_then _ (made_less (signed_made file n)) (λ y m k i q.
     made_got (signed_of (v / 2), y) m (omega arith) i (size_signed (v / 2) largest_size (omega arith), q))))
-
--- what the readers of these promise
-pub signed-within : (file : List ℕ) (at : ℕ) (r : Answer ℤ) → r ≡ signed file at → IfOk r (λ x. (nat_abs x.value ≤ largest_size) × (at < x.next) × (x.next ≤ length file))
-signed-within file at r e = made_by _ e (signed_made file at) (λ x l h p. (p, omega arith, h))
-
--- the same of displacements
-pub delta_within : {file : List ℕ} {at : ℕ} {r s : Answer (ℤ × ℤ)} → Made file (suc at) s (λ z n. Sizes largest_size z) → r ≡ s → IfOk r (λ x. (nat_abs x.value.0 ≤ largest_size) × (nat_abs x.value.1 ≤ largest_size) × (at < x.next) × (x.next ≤ length file))
-delta_within m e = made_by _ e m (λ x l h p. (p.0, p.1, omega arith, h))

@@ -9,4 +9,4 @@ use Rattle.tokens.specs.Units.{unit}
 -- all of them compute
 pub examples_hold : ExamplesHold
 unfolding unsigned signed two_delta three_delta g_delta text unit
-examples_hold = (refl, (refl, (refl, (refl, (refl, (refl, (refl, (refl, (refl, (refl, (refl, (refl, (refl, (refl, (refl, (refl, (refl, (refl, tt))))))))))))))))))
+examples_hold = (refl, (refl, (refl, (refl, (refl, (refl, (refl, (refl, (refl, (refl, (refl, (refl, (refl, (refl, (refl, (refl, (refl, (refl, (refl, (refl, tt))))))))))))))))))))

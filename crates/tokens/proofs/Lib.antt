@@ -7,6 +7,7 @@ pub mod Units
 pub mod Bytes
 pub mod ChainLaws
 pub mod Locals
+pub mod Parts
 pub mod Backs
 pub mod Encodings
 pub mod Examples

@@ -12,11 +12,12 @@ use Rattle.tokens.specs.Bytes.{byte_at}
 use Rattle.tokens.specs.Chains.{unsigned}
 use Rattle.tokens.specs.Deltas.{even, signed_of, signed, straight, octangular, two_delta, three_delta, g_delta}
 use Rattle.tokens.specs.Laws.{ReadsNothingElse}
+use Rattle.tokens.specs.Parts.{part}
 use Rattle.tokens.specs.Readers.{Local}
 use Rattle.tokens.specs.Texts.{obeys, text_from, text}
 use Rattle.tokens.specs.Units.{whole_type, reciprocal_type, ratio_type, is_whole, quotient, unit_from, unit}
 use Rattle.tokens.proofs.ChainLaws.{reads_chains, chains_are_read}
-use Rattle.tokens.proofs.Chaining.{going, first_way, same_got, not_fault}
+use Rattle.tokens.proofs.Chaining.{going, first_way, same_got, not_fault, passed}
 
 -- two files that agree from `at` to n agree from there to an earlier place
 front : (file other : List ℕ) (at m n : ℕ) → m ≤ n → between at n file ≡ between at n other → between at m file ≡ between at m other
@@ -51,9 +52,12 @@ local_then {A = A} {B = B} r f p k = record { onward = λ file at x e. ahead fil
         ((k at y.value).same file other y.next x e l (back file other at y.next x.next i j s))
     alike file other at x (Err d) q e l s = not_fault e
 
--- a value that is at hand
+-- a value that is at hand, or made of the place
+local_made : {A : Type 0} (v : ℕ → A) → Local (λ file n. got (v n) n)
+local_made v = record { onward = λ file at x e. let p = same_got e in omega (arith, p.1); same = λ file other at x e l s. e }
+
 pub local_got : {A : Type 0} (v : A) → Local (λ file n. got v n)
-local_got v = record { onward = λ file at x e. let p = same_got e in omega (arith, p.1); same = λ file other at x e l s. e }
+local_got v = local_made (λ n. v)
 
 -- a fault is no value
 pub local_fault : {A : Type 0} (d : TokenFault) → Local {A = A} (λ file n. Err d)
@@ -101,11 +105,6 @@ g_delta_local =
     local_cond (even v) _ _ (local_got (octangular (v / 2)))
     (local_then signed (λ file n y m. got (signed_of (v / 2), y) m) signed_local (λ n y. local_got (signed_of (v / 2), y))))
 
--- a value comes only where the test came out true
-ok_where : {A : Type 0} (b : Bool) {x : Read A} {a : Answer A} (d : TokenFault) → Ok x ≡ cond b a (Err d) → (b ≡ true) × (Ok x ≡ a)
-ok_where true d e = (refl, e)
-ok_where false d e = not_fault e
-
 -- files that agree on one byte
 byte_same : (file other : List ℕ) (at : ℕ) → between at (at + 1) file ≡ between at (at + 1) other → get_or file at 0 ≡ get_or other at 0
 byte_same file other at s =
@@ -118,9 +117,9 @@ pub byte_local : Local byte_at
 unfolding byte_at
 byte_local =
     record {
-      onward = λ file at x e. let p = same_got (ok_where (ltb at (length file)) _ e).1 in omega (arith, p.1);
+      onward = λ file at x e. let p = same_got (passed (ltb at (length file)) _ _ e).1 in omega (arith, p.1);
       same = λ file other at x e l s.
-          let r = (ok_where (ltb at (length file)) _ e).1 in
+          let r = (passed (ltb at (length file)) _ _ e).1 in
           let n : x.next ≡ at + 1 = (same_got r).1 in
           first_way _ (sym (lt-ltb at (length other) (omega arith))) (r ∙ ap (λ b. got b (at + 1)) (byte_same file other at (rw n at s)));
     }
@@ -130,13 +129,13 @@ from_length : (rule : StringRule) (at size : ℕ) → Local (λ file n. text_fro
 from_length rule at size =
     record {
       onward = λ file n x e.
-          let r = ok_where (leb size (length file - n)) _ e in
-          let q = ok_where (obeys rule (take size (drop n file))) _ r.1 in
+          let r = passed (leb size (length file - n)) _ _ e in
+          let q = passed (obeys rule (take size (drop n file))) _ _ r.1 in
           let m = (same_got q.1).1 in
           omega arith;
       same = λ file other n x e l s.
-          let r = ok_where (leb size (length file - n)) _ e in
-          let q = ok_where (obeys rule (take size (drop n file))) _ r.1 in
+          let r = passed (leb size (length file - n)) _ _ e in
+          let q = passed (obeys rule (take size (drop n file))) _ _ r.1 in
           let m : x.next ≡ n + size = (same_got q.1).1 in
           let k : n + size - n ≡ size = omega arith in
           let t : take size (drop n file) ≡ take size (drop n other) = rw (m, k) at s in
@@ -148,6 +147,10 @@ from_length rule at size =
 pub text_local : (rule : StringRule) → Local (text rule)
 unfolding text
 text_local rule = local_then unsigned (λ file at size n. text_from rule file at size n) unsigned_local (λ at size. from_length rule at size)
+
+-- the text of a string as a part of the file
+pub part_local : (rule : StringRule) → Local (part rule)
+part_local rule = local_then (text rule) (λ file at t n. got (record { place = n - length t; size = length t }) n) (text_local rule) (λ at t. local_made (λ n. record { place = n - length t; size = length t }))
 
 -- the quotient of a unit reads nothing
 quotient_local : (at p q : ℕ) → Local (λ file n. quotient at p q n)
@@ -170,4 +173,4 @@ unit_local =
 
 -- all of them
 pub reads_nothing_else : ReadsNothingElse
-reads_nothing_else = (unsigned_local, signed_local, two_delta_local, three_delta_local, g_delta_local, byte_local, text_local, unit_local)
+reads_nothing_else = (unsigned_local, signed_local, two_delta_local, three_delta_local, g_delta_local, byte_local, text_local, part_local, unit_local)

@@ -2,12 +2,12 @@
 use Rattle.std.proofs.Common.{◌≡◌, ℕ, suc, ◌≤◌, Bool, true, false, cond, List, length, IfOk, Ok, Err, refl, ◌∙◌, subst, arith}
 use Rattle.tokens.specs.declared.fault.Read.{Read}
 use Rattle.tokens.specs.declared.fault.TokenFault.{TokenFault}
-use Rattle.tokens.specs.Answers.{Answer, got, then, shown}
+use Rattle.tokens.specs.Answers.{Answer, got, then}
 use Rattle.tokens.specs.Readers.{Made}
 
 -- a fault makes nothing
 pub made_fault : {A : Type 0} {file : List ℕ} {least : ℕ} {P : A → ℕ → Type 0} (e : TokenFault) → Made file least (Err e) P
-made_fault e = record { on = λ x h. let z : ◌≡◌ {A = ℕ} 0 1 = cc in absurd (omega arith) }
+made_fault e = record { on = λ x h. absurd (cc) }
 
 -- a value that is at hand
 pub made_got : {A : Type 0} {file : List ℕ} {least : ℕ} {P : A → ℕ → Type 0} (v : A) (n : ℕ) → least ≤ n → n ≤ length file → P v n → Made file least (got v n) P
@@ -48,11 +48,3 @@ made_by {A = A} {file = file} {least = least} {P = P} Q {r = r} q p k = by r (ma
     by : (r : Answer A) → Made file least r P → IfOk r Q
     by (Ok x) m = let b = m.on x refl in k x b.0 b.1 b.2
     by (Err e) m = tt
-
--- the same of a result that shows such an answer
-pub made_shown : {X A : Type 0} {file : List ℕ} {least : ℕ} {P : A → ℕ → Type 0} (g : X → A) (Q : Read X → Type 0) (r : Answer X) {s : Answer A} → shown g r ≡ s → Made file least s P → ((x : Read X) → least ≤ x.next → x.next ≤ length file → P (g x.value) x.next → Q x) → IfOk r Q
-made_shown {X = X} {A = A} {file = file} {least = least} {P = P} g Q r {s = s} q p k = by r q
-  where
-    by : (r : Answer X) → shown g r ≡ s → IfOk r Q
-    by (Ok x) e = let b = p.on (record { value = g x.value; next = x.next }) e in k x b.0 b.1 b.2
-    by (Err d) e = tt

@@ -6,7 +6,7 @@ use Rattle.tokens.specs.Answers.{Answer, then}
 use Rattle.tokens.specs.Chains.{largest, unsigned}
 use Rattle.tokens.specs.Encodings.{FitsUnit}
 use Rattle.tokens.specs.Laws.{UnitMade}
-use Rattle.tokens.specs.Readers.{Made}
+use Rattle.tokens.specs.Readers.{Made, GoesOn}
 use Rattle.tokens.specs.Units.{whole_type, reciprocal_type, ratio_type, is_whole, quotient, unit}
 use Rattle.tokens.proofs.ChainLaws.{unsigned_made}
 use Rattle.tokens.proofs.Mades.{made_got, made_fault, made_then, made_cond, made_less, made_by}
@@ -47,5 +47,5 @@ unit_made file at =
     (λ _. made_fault _))))
 
 -- what the reader of a unit promises
-pub unit-within : (file : List ℕ) (at : ℕ) (r : Answer ℕ) → r ≡ unit file at → IfOk r (λ x. (1 ≤ x.value) × (x.value ≤ largest) × (at < x.next) × (x.next ≤ length file))
-unit-within file at r e = made_by _ e (unit_made file at) (λ x l h p. (p.0, p.1, l, h))
+pub unit_within : (file : List ℕ) (at : ℕ) (r : Answer ℕ) → r ≡ unit file at → IfOk r (λ x. (1 ≤ x.value) × (x.value ≤ largest) × GoesOn file at x)
+unit_within file at r e = made_by _ e (unit_made file at) (λ x l h p. (p.0, p.1, (l, h)))

@@ -1,11 +1,15 @@
 -- Signed integers and displacements.
-use Rattle.std.specs.Prelude.{ℕ, ◌/◌, ◌%◌, Bool, cond, List, [], ◌∷◌, ℤ, pos, neg_ℤ, ◌==◌, slice_index_or}
+use Rattle.std.specs.Prelude.{ℕ, ◌/◌, ◌%◌, ◌≤◌, Bool, cond, List, [], ◌∷◌, ℤ, pos, neg_ℤ, unsigned_abs, ◌==◌, slice_index_or}
 use Rattle.tokens.specs.Answers.{Answer, got, then}
 use Rattle.tokens.specs.Chains.{largest, unsigned}
 
 -- the greatest size of a signed integer or of a component of a displacement
 abbrev pub largest_size : ℕ
 largest_size = largest / 2
+
+-- both components of a displacement are at most this in size
+abbrev pub Sizes : ℕ → ℤ × ℤ → Type 0
+Sizes s z = (unsigned_abs z.0 ≤ s) × (unsigned_abs z.1 ≤ s)
 
 -- bit 0 is not set
 abbrev pub even : ℕ → Bool

@@ -2,11 +2,13 @@
 use Rattle.std.specs.Prelude.{◌≡◌, ℕ, List, [], ◌∷◌, ℤ, pos, negsuc}
 use Rattle.std.specs.List.{AllByRecursion as Every}
 use Rattle.tokens.specs.declared.fault.FaultKind.TheVariants.{Cut, Wide, BadString, BadUnit}
+use Rattle.tokens.specs.declared.part.Part.{Part}
 use Rattle.tokens.specs.declared.text.StringRule.TheVariants.{Name, Ascii}
 use Rattle.tokens.specs.declared.text.StringRule.{StringRule}
 use Rattle.tokens.specs.Answers.{Answer, got, fault}
 use Rattle.tokens.specs.Chains.{largest, unsigned}
 use Rattle.tokens.specs.Deltas.{signed, two_delta, three_delta, g_delta}
+use Rattle.tokens.specs.Parts.{part}
 use Rattle.tokens.specs.Texts.{text}
 use Rattle.tokens.specs.Units.{unit}
 
@@ -18,6 +20,7 @@ pub data Case : Type 0 where
   a_three_delta : List ℕ → Answer (ℤ × ℤ) → Case
   a_g_delta : List ℕ → Answer (ℤ × ℤ) → Case
   string : StringRule → List ℕ → Answer (List ℕ) → Case
+  a_part : StringRule → List ℕ → Answer Part → Case
   a_unit : List ℕ → Answer ℕ → Case
 
 -- it does
@@ -28,6 +31,7 @@ Holds (a_two_delta file r) = two_delta file 0 ≡ r
 Holds (a_three_delta file r) = three_delta file 0 ≡ r
 Holds (a_g_delta file r) = g_delta file 0 ≡ r
 Holds (string rule file r) = text rule file 0 ≡ r
+Holds (a_part rule file r) = part rule file 0 ≡ r
 Holds (a_unit file r) = unit file 0 ≡ r
 
 -- the examples
@@ -48,6 +52,8 @@ table =
     ∷ string Name (0x03 ∷ 0x41 ∷ 0x42 ∷ []) (fault Cut 0)
     ∷ string Name (0x00 ∷ []) (fault BadString 0)
     ∷ string Ascii (0x00 ∷ []) (got [] 1)
+    ∷ a_part Name (0x03 ∷ 0x41 ∷ 0x42 ∷ 0x43 ∷ []) (got (record { place = 1; size = 3 }) 4)
+    ∷ a_part Name (0x03 ∷ 0x41 ∷ 0x42 ∷ []) (fault Cut 0)
     ∷ a_unit (0x00 ∷ 0xe8 ∷ 0x07 ∷ []) (got 1000 3)
     ∷ a_unit (0x04 ∷ 0xd0 ∷ 0x0f ∷ 0x02 ∷ []) (got 1000 4)
     ∷ a_unit (0x02 ∷ 0x02 ∷ []) (fault BadUnit 0)

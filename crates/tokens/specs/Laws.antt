@@ -4,12 +4,13 @@ use Rattle.std.specs.List.{between, AllByRecursion as Every}
 use Rattle.tokens.specs.declared.fault.FaultKind.TheVariants.{Cut, Wide}
 use Rattle.tokens.specs.declared.fault.FaultKind.{FaultKind}
 use Rattle.tokens.specs.declared.text.StringRule.{StringRule}
-use Rattle.tokens.specs.Answers.{Answer, got, fault}
+use Rattle.tokens.specs.Answers.{Answer, got, fault, then}
 use Rattle.tokens.specs.Bytes.{byte_at}
 use Rattle.tokens.specs.Chains.{largest, chain_bytes, radix, Chain, unsigned}
-use Rattle.tokens.specs.Deltas.{largest_size, signed, two_delta, three_delta, g_delta}
+use Rattle.tokens.specs.Deltas.{largest_size, Sizes, signed, two_delta, three_delta, g_delta}
 use Rattle.tokens.specs.Encodings.{short_bytes, byte_values, shortest, signed_bytes, FitsSigned, g_delta_bytes, FitsDelta, text_bytes, FitsText, unit_bytes, FitsUnit}
 use Rattle.tokens.specs.Faults.{number_of}
+use Rattle.tokens.specs.Parts.{bytes_in, part, text_part, Placed}
 use Rattle.tokens.specs.Readers.{Made, Back, Local}
 use Rattle.tokens.specs.Texts.{text, Stands}
 use Rattle.tokens.specs.Units.{unit}
@@ -61,7 +62,7 @@ NoOtherAnswer =
 -- what is read depends on no byte before the place or after where the reader stopped
 abbrev pub ReadsNothingElse : Type 0
 ReadsNothingElse =
-    Local unsigned × Local signed × Local two_delta × Local three_delta × Local g_delta × Local byte_at × ((rule : StringRule) → Local (text rule)) × Local unit
+    Local unsigned × Local signed × Local two_delta × Local three_delta × Local g_delta × Local byte_at × ((rule : StringRule) → Local (text rule)) × ((rule : StringRule) → Local (part rule)) × Local unit
 
 -- an unsigned integer takes at least one byte of the file, and is at most the greatest
 abbrev pub UnsignedMade : Type 0
@@ -70,10 +71,6 @@ UnsignedMade = (file : List ℕ) (at : ℕ) → Made file (suc at) (unsigned fil
 -- a signed integer takes at least one byte, and its size is at most half of that
 abbrev pub SignedMade : Type 0
 SignedMade = (file : List ℕ) (at : ℕ) → Made file (suc at) (signed file at) (λ z n. unsigned_abs z ≤ largest_size)
-
--- both components of a displacement are at most this in size
-abbrev pub Sizes : ℕ → ℤ × ℤ → Type 0
-Sizes s z = (unsigned_abs z.0 ≤ s) × (unsigned_abs z.1 ≤ s)
 
 -- a displacement takes at least one byte, and so are its components
 abbrev pub DeltaMade : (List ℕ → ℕ → Answer (ℤ × ℤ)) → Type 0
@@ -86,6 +83,14 @@ ByteMade = (file : List ℕ) (at : ℕ) → Made file (suc at) (byte_at file at)
 -- a string takes at least one byte, and its text obeys the rule and stands at its end
 abbrev pub TextMade : Type 0
 TextMade = (rule : StringRule) (file : List ℕ) (at : ℕ) → Made file (suc at) (text rule file at) (Stands rule file at)
+
+-- so does a part, which stands behind the string's first byte and ends where the string does, and whose bytes obey the rule
+abbrev pub PartMade : Type 0
+PartMade = (rule : StringRule) (file : List ℕ) (at : ℕ) → Made file (suc at) (part rule file at) (Placed rule file at)
+
+-- the bytes of the part that is read are the text that is read
+abbrev pub PartShows : Type 0
+PartShows = (rule : StringRule) (file : List ℕ) (at : ℕ) → then (part rule file at) (λ p n. got (bytes_in file p) n) ≡ text rule file at
 
 -- a unit takes at least one byte, and is one that a file can hold
 abbrev pub UnitMade : Type 0
@@ -110,6 +115,10 @@ ByteBack = (file : List ℕ) (at b : ℕ) → Back file at (b ∷ []) (byte_at f
 -- and the bytes of a string
 abbrev pub TextBack : Type 0
 TextBack = (rule : StringRule) (file : List ℕ) (at : ℕ) (t : List ℕ) → FitsText rule t → Back file at (text_bytes t) (text rule file at) t
+
+-- and where its text stands
+abbrev pub PartBack : Type 0
+PartBack = (rule : StringRule) (file : List ℕ) (at : ℕ) (t : List ℕ) → FitsText rule t → Back file at (text_bytes t) (part rule file at) (text_part at t)
 
 -- and those of a unit
 abbrev pub UnitBack : Type 0

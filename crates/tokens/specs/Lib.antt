@@ -7,6 +7,7 @@ pub mod Readers
 pub mod Texts
 pub mod Units
 pub mod Encodings
+pub mod Parts
 pub mod Laws
 pub mod Examples
 pub mod Outcomes

@@ -1,6 +1,6 @@
 -- Strings: a length, and then that many bytes.
-use Rattle.std.specs.Prelude.{◌≡◌, ℕ, ◌+◌, ◌-◌, ◌<◌, ◌≤◌, Bool, true, cond, ◌&&◌, List, [], ◌∷◌, length, take, drop, nat_le}
-use Rattle.std.specs.List.{between}
+use Rattle.std.specs.Prelude.{◌≡◌, ℕ, ◌+◌, ◌-◌, ◌<◌, ◌≤◌, Bool, true, cond, ◌&&◌, List, length, take, drop, nat_le}
+use Rattle.std.specs.List.{between, list_all}
 use Rattle.tokens.specs.declared.fault.FaultKind.TheVariants.{Cut, BadString}
 use Rattle.tokens.specs.declared.text.StringRule.TheVariants.{Name, Ascii, Binary}
 use Rattle.tokens.specs.declared.text.StringRule.{StringRule}
@@ -21,8 +21,7 @@ last_printable = 0x7e
 
 -- each byte is a character from `low` to `~`
 abbrev pub printable : ℕ → List ℕ → Bool
-printable low [] = true
-printable low (b ∷ bs) = (nat_le low b && nat_le b last_printable) && printable low bs
+printable low bs = list_all (λ b. nat_le low b && nat_le b last_printable) bs
 
 -- a name is visible and not empty, an ASCII text is printable, and a binary one is any bytes
 abbrev pub obeys : StringRule → List ℕ → Bool

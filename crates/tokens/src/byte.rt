@@ -2,21 +2,21 @@
 //!
 //! `63` is an info byte of four flags: 40, 20, 02 and 01.
 
-ghost use Rattle.std.specs.Prelude.{◌≡◌, ◌<◌, ◌≤◌, length, IfOk};
+ghost use Rattle.std.specs.Prelude.{◌≡◌, IfOk};
 ghost use Rattle.tokens.specs.Bytes.{byte_at, flag};
+ghost use Rattle.tokens.specs.Readers.{GoesOn};
 
-use crate::fault::{FaultKind, Read, TokenFault, refuse};
+use crate::fault::{FaultKind, Read, TokenFault};
 
 /// The byte at the place `at`.
+#[tactic(auto, unfolding(crate::specs::Bytes::byte_at))]
 pub fn read_byte(file: &[u8], at: usize) -> Result<Read<u8>, TokenFault>
     ensures reads { result ≡ byte_at file.now at }
-    ensures within { IfOk result (λ x. (at < x.next) × (x.next ≤ length file.now)) }
+    ensures within { IfOk result (λ x. GoesOn file.now at x) }
 {
-    if at >= file.len() {
-        return refuse(FaultKind::Cut, at);
-    }
+    let byte = file.get(at).ok_or(FaultKind::Cut.at(at))?;
     Ok(Read {
-        value: file[at],
+        value: *byte,
         next: at + 1,
     })
 }

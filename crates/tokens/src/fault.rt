@@ -6,51 +6,51 @@ ghost use Rattle.std.specs.Prelude.{◌≡◌};
 ghost use Rattle.tokens.specs.Answers.{fault};
 ghost use Rattle.tokens.specs.Faults.{number_of};
 
-/// What can be wrong in a file, or in what is asked of one.
-#[derive(Clone, Copy)]
+/// What can be wrong in a file, or in what is asked of one, with the number by which it is told.
+#[derive(Clone, Copy, Debug, PartialEq, Eq)]
 pub enum FaultKind {
     /// The file has more bytes than a reader takes.
-    TooLong,
+    TooLong = 1,
     /// The file does not begin with the magic bytes.
-    NoMagic,
+    NoMagic = 2,
     /// The file ends in a field.
-    Cut,
+    Cut = 3,
     /// An integer is above the greatest that a file may hold.
-    Wide,
+    Wide = 4,
     /// A record of a kind that is not carried.
-    NotCarried,
+    NotCarried = 5,
     /// A record stands where its kind may not stand.
-    OutOfPlace,
+    OutOfPlace = 6,
     /// The version is another than the one that is read.
-    Version,
+    Version = 7,
     /// The unit is not a whole number of at least 1.
-    BadUnit,
+    BadUnit = 8,
     /// A reserved bit or value is used.
-    Reserved,
+    Reserved = 9,
     /// A string breaks its rule.
-    BadString,
+    BadString = 10,
     /// A type or a scheme has a number that means nothing.
-    BadType,
+    BadType = 11,
     /// A field is absent, and its modal variable has no value.
-    Undefined,
+    Undefined = 12,
     /// A number or a place is out of reach.
-    Reach,
+    Reach = 13,
     /// A repetition has too many copies.
-    Copies,
+    Copies = 14,
     /// A point list is not one that its type allows.
-    BadList,
+    BadList = 15,
     /// Two name records disagree.
-    NameConflict,
+    NameConflict = 16,
     /// A reference number has no name.
-    NoSuchName,
+    NoSuchName = 17,
     /// The END record does not end the file.
-    BadEnd,
+    BadEnd = 18,
     /// The checksum is not that of the file.
-    Checksum,
+    Checksum = 19,
     /// A value that no file can give.
-    Value,
+    Value = 20,
     /// The rows are too few.
-    FewRows,
+    FewRows = 21,
 }
 
 impl FaultKind {
@@ -58,34 +58,12 @@ impl FaultKind {
     pub fn number(self) -> u8
         ensures numbers { result ≡ number_of self }
     {
-        match self {
-            FaultKind::TooLong => 1,
-            FaultKind::NoMagic => 2,
-            FaultKind::Cut => 3,
-            FaultKind::Wide => 4,
-            FaultKind::NotCarried => 5,
-            FaultKind::OutOfPlace => 6,
-            FaultKind::Version => 7,
-            FaultKind::BadUnit => 8,
-            FaultKind::Reserved => 9,
-            FaultKind::BadString => 10,
-            FaultKind::BadType => 11,
-            FaultKind::Undefined => 12,
-            FaultKind::Reach => 13,
-            FaultKind::Copies => 14,
-            FaultKind::BadList => 15,
-            FaultKind::NameConflict => 16,
-            FaultKind::NoSuchName => 17,
-            FaultKind::BadEnd => 18,
-            FaultKind::Checksum => 19,
-            FaultKind::Value => 20,
-            FaultKind::FewRows => 21,
-        }
+        self as u8
     }
 }
 
 /// A fault, and the place of the byte that it names.
-#[derive(Clone, Copy)]
+#[derive(Clone, Copy, Debug, PartialEq, Eq)]
 pub struct TokenFault {
     /// What is wrong.
     pub kind: FaultKind,
@@ -93,8 +71,26 @@ pub struct TokenFault {
     pub place: usize,
 }
 
+impl FaultKind {
+    /// The fault of this kind at a place.
+    pub fn at(self, place: usize) -> TokenFault
+        ensures stands { result ≡ record { kind = self; place = place } }
+    {
+        TokenFault { kind: self, place }
+    }
+}
+
+impl TokenFault {
+    /// The number and the place of the fault, as they are told.
+    pub fn told(self) -> (u8, usize)
+        ensures tells { result ≡ (number_of self.kind, self.place) }
+    {
+        (self.kind.number(), self.place)
+    }
+}
+
 /// What was read, and the place after it.
-#[derive(Clone, Copy)]
+#[derive(Clone, Copy, Debug, PartialEq, Eq)]
 pub struct Read<T> {
     /// The value.
     pub value: T,
@@ -102,9 +98,33 @@ pub struct Read<T> {
     pub next: usize,
 }
 
+impl<T> Read<T> {
+    /// What is made of the value, and the same place after it.
+    pub fn map<U, F: FnOnce(T) -> U>(self, make: F) -> Read<U>
+        requires { F.pre make self.value }
+        ensures made { F.post make self.value result.value }
+        ensures after { result.next ≡ self.next }
+    {
+        Read {
+            value: make(self.value),
+            next: self.next,
+        }
+    }
+}
+
+impl<T: Drop> Read<T> {
+    /// Another value, and the same place after it.
+    pub fn with<U>(self, value: U) -> Read<U>
+        ensures holds { result ≡ record { value = value; next = self.next } }
+    {
+        let next = self.next;
+        Read { value, next }
+    }
+}
+
 /// The answer of a reader that meets a fault.
 pub fn refuse<T>(kind: FaultKind, place: usize) -> Result<Read<T>, TokenFault>
     ensures refuses { result ≡ fault kind place }
 {
-    Err(TokenFault { kind, place })
+    Err(kind.at(place))
 }

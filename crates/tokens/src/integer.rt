@@ -5,6 +5,7 @@
 ghost use Rattle.std.specs.Prelude.{◌≡◌, ◌+◌, ◌^◌, ◌<◌, ◌≤◌, length, IfOk, Ok, unsigned_abs};
 ghost use Rattle.tokens.specs.Chains.{largest, chain_bytes, chain, placed, unsigned};
 ghost use Rattle.tokens.specs.Deltas.{largest_size, signed_of, signed};
+ghost use Rattle.tokens.specs.Readers.{GoesOn};
 
 use crate::fault::{FaultKind, Read, TokenFault, refuse};
 
@@ -38,24 +39,25 @@ fn read_chain(rest: &[u8], at: usize) -> Result<Read<u64>, TokenFault>
 {
     let mut value: u128 = 0;
     let mut scale: u128 = 1;
-    for k in 0..CHAIN_BYTES {
-        if k >= rest.len() {
-            return refuse(FaultKind::Cut, at);
-        }
-        let byte = rest[k];
+    let bytes = &rest[..rest.len().min(CHAIN_BYTES)];
+    for (k, byte) in bytes.iter().enumerate() {
         value += u128::from(byte % RADIX) * scale;
-        if byte < RADIX {
+        if *byte < RADIX {
             return limited(value, at, k + 1);
         }
         scale *= u128::from(RADIX);
+    }
+    if rest.len() < CHAIN_BYTES {
+        return refuse(FaultKind::Cut, at);
     }
     refuse(FaultKind::Wide, at)
 }
 
 /// The unsigned integer at the place `at`.
+#[tactic(auto, using(crate::proofs::ChainLaws::unsigned_within, crate::proofs::Chains::past_end), unfolding(crate::specs::Chains::unsigned))]
 pub fn read_unsigned(file: &[u8], at: usize) -> Result<Read<u64>, TokenFault>
     ensures reads { result ≡ unsigned file.now at }
-    ensures within { IfOk result (λ x. (x.value ≤ largest) × (at < x.next) × (x.next ≤ length file.now)) }
+    ensures within { IfOk result (λ x. (x.value ≤ largest) × GoesOn file.now at x) }
 {
     if at > file.len() {
         return refuse(FaultKind::Cut, at);
@@ -72,13 +74,10 @@ pub fn signed_of(v: u64) -> i64
 }
 
 /// The signed integer at the place `at`.
+#[tactic(auto, unfolding(crate::specs::Deltas::signed))]
 pub fn read_signed(file: &[u8], at: usize) -> Result<Read<i64>, TokenFault>
     ensures reads { result ≡ signed file.now at }
-    ensures within { IfOk result (λ x. (unsigned_abs x.value ≤ largest_size) × (at < x.next) × (x.next ≤ length file.now)) }
+    ensures within { IfOk result (λ x. (unsigned_abs x.value ≤ largest_size) × GoesOn file.now at x) }
 {
-    let code = read_unsigned(file, at)?;
-    Ok(Read {
-        value: signed_of(code.value),
-        next: code.next,
-    })
+    Ok(read_unsigned(file, at)?.map(signed_of))
 }

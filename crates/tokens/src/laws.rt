@@ -5,8 +5,8 @@
 ghost use Rattle.tokens.specs.Deltas.{two_delta, three_delta, g_delta};
 ghost use Rattle.tokens.specs.Laws.{NumbersAreDistinct};
 ghost use Rattle.tokens.specs.Laws.{ReadsChains, ChainsAreRead, CutsExactly, WideExactly, NoOtherAnswer, ReadsNothingElse};
-ghost use Rattle.tokens.specs.Laws.{UnsignedMade, SignedMade, DeltaMade, ByteMade, TextMade, UnitMade};
-ghost use Rattle.tokens.specs.Laws.{UnsignedBack, SignedBack, GDeltaBack, ByteBack, TextBack, UnitBack};
+ghost use Rattle.tokens.specs.Laws.{UnsignedMade, SignedMade, DeltaMade, ByteMade, TextMade, PartMade, PartShows, UnitMade};
+ghost use Rattle.tokens.specs.Laws.{UnsignedBack, SignedBack, GDeltaBack, ByteBack, TextBack, PartBack, UnitBack};
 ghost use Rattle.tokens.specs.Laws.{BytesAreDistinct, ShortestIsChain, ShortestSizes, ShortestBytes};
 ghost use Rattle.tokens.specs.Examples.{ExamplesHold};
 
@@ -34,6 +34,8 @@ pub fn laws_of_readers()
     ensures g_delta { DeltaMade g_delta }
     ensures byte { ByteMade }
     ensures text { TextMade }
+    ensures part { PartMade }
+    ensures shows { PartShows }
     ensures unit { UnitMade }
 {}
 
@@ -44,6 +46,7 @@ pub fn laws_of_encodings()
     ensures g_delta { GDeltaBack }
     ensures byte { ByteBack }
     ensures text { TextBack }
+    ensures part { PartBack }
     ensures unit { UnitBack }
     ensures distinct { BytesAreDistinct }
     ensures shortest { ShortestIsChain }

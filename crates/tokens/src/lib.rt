@@ -10,6 +10,7 @@ mod delta;
 mod fault;
 mod integer;
 mod laws;
+mod part;
 mod text;
 mod unit;
 
@@ -20,5 +21,6 @@ pub use integer::{CHAIN_BYTES, LARGEST, read_signed, read_unsigned, signed_of};
 pub use laws::{
     laws_of_chains, laws_of_encodings, laws_of_faults, laws_of_readers, worked_examples,
 };
+pub use part::{Part, read_part};
 pub use text::{StringRule, obeys, read_string};
 pub use unit::read_unit;

@@ -6,19 +6,20 @@ ghost use Rattle.std.specs.Prelude.{◌≡◌, ◌+◌, ◌-◌, ◌<◌, ◌≤
 ghost use Rattle.std.specs.List.{between};
 ghost use Rattle.tokens.specs.Answers.{shown};
 ghost use Rattle.tokens.specs.Chains.{largest};
+ghost use Rattle.tokens.specs.Readers.{GoesOn};
 ghost use Rattle.tokens.specs.Texts.{printable, obeys, text};
 
 use crate::fault::{FaultKind, Read, TokenFault, refuse};
 use crate::integer::read_unsigned;
 
 // The first printable character.
-const SPACE: u8 = 0x20;
+const SPACE: u8 = b' ';
 
 // The first visible one, `!`.
-const FIRST_VISIBLE: u8 = 0x21;
+const FIRST_VISIBLE: u8 = b'!';
 
 // The last one, `~`.
-const LAST_PRINTABLE: u8 = 0x7e;
+const LAST_PRINTABLE: u8 = b'~';
 
 /// What the bytes of a string may be.
 #[derive(Clone, Copy)]
@@ -35,12 +36,7 @@ pub enum StringRule {
 fn are_printable(bytes: &[u8], low: u8) -> bool
     ensures { result ≡ printable low bytes.now }
 {
-    for b in bytes {
-        if *b < low || *b > LAST_PRINTABLE {
-            return false;
-        }
-    }
-    true
+    bytes.iter().all(|b| low <= *b && *b <= LAST_PRINTABLE)
 }
 
 /// Whether the bytes obey the rule.
@@ -55,13 +51,14 @@ pub fn obeys(bytes: &[u8], rule: StringRule) -> bool
 }
 
 /// The string at the place `at`: the part of the file that holds its text.
+#[tactic(auto, using(crate::proofs::Texts::text_cut, crate::proofs::Texts::text_bad, crate::proofs::Texts::text_made), unfolding(crate::specs::Texts::text))]
 pub fn read_string<'a>(
     file: &'a [u8],
     at: usize,
     rule: StringRule,
 ) -> Result<Read<&'a [u8]>, TokenFault>
     ensures reads { shown (λ t. t.now) result ≡ text rule file.now at }
-    ensures within { IfOk result (λ x. (length x.value.now ≤ largest) × (at + length x.value.now < x.next) × (at < x.next) × (x.next ≤ length file.now)) }
+    ensures within { IfOk result (λ x. (length x.value.now ≤ largest) × (at + length x.value.now < x.next) × GoesOn file.now at x) }
     ensures place { IfOk result (λ x. x.value.now ≡ between (x.next - length x.value.now) x.next file.now) }
 {
     let size = read_unsigned(file, at)?;

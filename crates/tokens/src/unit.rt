@@ -2,8 +2,9 @@
 //!
 //! `00 E8 07` is the whole number 1000, and `04 D0 0F 02` the ratio 2000 / 2, which is the same unit.
 
-ghost use Rattle.std.specs.Prelude.{◌≡◌, ◌<◌, ◌≤◌, length, IfOk};
+ghost use Rattle.std.specs.Prelude.{◌≡◌, ◌≤◌, IfOk};
 ghost use Rattle.tokens.specs.Chains.{largest};
+ghost use Rattle.tokens.specs.Readers.{GoesOn};
 ghost use Rattle.tokens.specs.Units.{quotient, unit_from, unit};
 
 use crate::fault::{FaultKind, Read, TokenFault, refuse};
@@ -28,7 +29,8 @@ fn divide(at: usize, p: u64, q: u64, next: usize) -> Result<Read<u64>, TokenFaul
     Ok(Read { value: p / q, next })
 }
 
-// The unit of the type `shape`, whose integers stand from the place `next`.
+// The unit of the type `shape`, whose integers stand from the place `next`. The types stay numbers: an enum of the three would be
+// made from them by this same match, and matched again.
 fn read_quotient(file: &[u8], at: usize, shape: u64, next: usize) -> Result<Read<u64>, TokenFault>
     ensures { result ≡ unit_from file.now at shape next }
 {
@@ -51,9 +53,10 @@ fn read_quotient(file: &[u8], at: usize, shape: u64, next: usize) -> Result<Read
 }
 
 /// The unit at the place `at`.
+#[tactic(auto, using(crate::proofs::Units::unit_within), unfolding(crate::specs::Units::unit))]
 pub fn read_unit(file: &[u8], at: usize) -> Result<Read<u64>, TokenFault>
     ensures reads { result ≡ unit file.now at }
-    ensures within { IfOk result (λ x. (1 ≤ x.value) × (x.value ≤ largest) × (at < x.next) × (x.next ≤ length file.now)) }
+    ensures within { IfOk result (λ x. (1 ≤ x.value) × (x.value ≤ largest) × GoesOn file.now at x) }
 {
     let shape = read_unsigned(file, at)?;
     read_quotient(file, at, shape.value, shape.next)

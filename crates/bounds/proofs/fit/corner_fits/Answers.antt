@@ -4,4 +4,4 @@ use Rattle.bounds.proofs.fit.corner_fits.Goals as goal
 
 pub returns : goal.returns
 returns c =
-    c.is_near.ensures ∙ ap (within reach) (c.moved-2.ensures.adds ∙ ap (λ p. sum p c.args.vertex) c.moved.ensures.adds)
+    c.reaches.ensures.tells ∙ ap (within reach) (c.add-2.ensures.0 ∙ ap (λ p. sum p c.args.vertex) c.add.ensures.0)

@@ -1,17 +1,11 @@
-use Rattle.std.proofs.Common.{sym, ◌∙◌, arith}
-use Rattle.bounds.specs.Points.{reach, origin}
-use Rattle.items.proofs.Tests.{near_more, near_all}
+use Rattle.std.proofs.Common.{◌∙◌, rules, tests}
+use Rattle.std.proofs.lemmas.Iterator.{YieldsList-from_slice}
+use Rattle.std.proofs.lemmas.Iterator.Search.{all_from_yields_List}
+use Rattle.bounds.specs.Points.{reach, within}
+use Rattle.items.proofs.Tests.{all_within_is}
 use Rattle.items.proofs.validity.are_near.Goals as goal
 
-pub returns-then-not-reaches : goal.returns-then-not-reaches
-returns-then-not-reaches c =
-    let e = near_more reach c.loop-p.p-index c.args.points.now origin c.loop-p-test.true in
-    grind (arith, e)
-
-pub loop-p-preserved : goal.loop-p-preserved
-loop-p-preserved c =
-    let e = near_more reach c.loop-p.p-index c.args.points.now origin c.loop-p-test.true in
-    grind (arith, e)
-
 pub returns : goal.returns
-returns c = sym (c.loop-p.invariant ∙ near_all reach c.loop-p.p-index c.args.points.now c.loop-p-test.false)
+returns c =
+    let ps = c.args.points.now in
+    all_from_yields_List (within reach) _ _ _ c.all.ensures.ran (YieldsList-from_slice ps cc) (λ x b q k. search (rules, tests)) ∙ all_within_is reach ps

@@ -1,13 +1,9 @@
-use Rattle.std.proofs.Common.{set, ◌∙◌}
-use Rattle.std.proofs.Math.Path.{ap₂}
-use Rattle.keyed.specs.Rows.{zero_row}
-use Rattle.keyed.proofs.Tables.{cleared_more, cleared_all}
+use Rattle.std.proofs.Common.{rules}
+use Rattle.keyed.proofs.Tables.{all_written}
 use Rattle.keyed.proofs.table.clear_rows.Goals as goal
 
-pub loop-row-preserved : goal.loop-row-preserved
-loop-row-preserved g c =
-    ap₂ (λ k v. set c.loop-row.rows c.loop-row.row-index (zero_row k v)) c.zeroed.ensures c.zeroed-2.ensures
-    ∙ cleared_more _ _ _ _ c.loop-row-test.true c.loop-row.invariant
-
 pub returns : goal.returns
-returns g c = record { zeros = cleared_all _ _ _ _ c.loop-row-test.false c.loop-row.auto.row-index-end c.loop-row.invariant }
+returns g c =
+    let key = g.met.K.Zero.only_zero _ c.default-zero.ensures.0 in
+    let value = g.met.V.Zero.only_zero _ c.default-zero.ensures.1 in
+    record { zeros = all_written _ _ _ _ (λ y f e. search rules) _ _ c.fill_with.ensures.len c.fill_with.ensures.ran.1 }

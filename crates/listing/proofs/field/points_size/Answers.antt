@@ -1,17 +1,24 @@
-use Rattle.std.proofs.Common.{length, get_or, take, ap, ◌∙◌, arith, length-append}
-use Rattle.bounds.specs.Points.{origin}
-use Rattle.listing.specs.Lines.{spaced, coordinates}
-use Rattle.listing.proofs.Fields.{point_fields, points_more, points_all}
+use Rattle.std.proofs.Common.{◌≡◌, ℕ, min, ◌∙◌, sym, arith, rules}
+use Rattle.std.specs.List.{sum_by}
+use Rattle.std.proofs.lemmas.Iterator.{YieldsList-from_slice, YieldsList-from_map}
+use Rattle.std.proofs.lemmas.Iterator.Consumers.{YieldsList-at, sum_by_from_yields_List}
+use Rattle.std.proofs.lemmas.List.Sums.{sum_by-le}
+use Rattle.bounds.specs.declared.point.Point.{Point}
+use Rattle.listing.proofs.Fields.{point_size, points_length}
 use Rattle.listing.proofs.field.points_size.Goals as goal
 
-pub loop-p-preserved : goal.loop-p-preserved
-loop-p-preserved c =
+pub returns-clause-bytes : goal.returns-clause-bytes
+returns-clause-bytes c =
     let ps = c.args.points.now in
-    let i = c.loop-p.p-index in
-    let e = ap length (points_more ps i c.loop-p-test.true) ∙ length-append (spaced (coordinates (take i ps))) (point_fields (get_or ps i origin)) in
-    let n = c.numbers_size-size.ensures.bytes ∙ ap (λ l. length (spaced l)) c.point_numbers.ensures in
-    (omega (arith, c.loop-p.invariant.0, e, n), omega (arith, c.loop-p.invariant.1, c.numbers_size-size.ensures.few))
+    sum_by_from_yields_List point_size ps _ _ c.sum.ensures.ran
+    (YieldsList-from_map _ point_size (YieldsList-at c.map.ensures.source (YieldsList-from_slice ps cc)) c.map.ensures.closure (λ p n q k. search rules))
+    ∙ sym (points_length ps)
 
-pub returns : goal.returns
-returns c =
-    record { bytes = c.loop-p.invariant.0 ∙ ap length (points_all c.args.points.now c.loop-p.p-index c.loop-p-test.false); few = omega (arith, c.loop-p.invariant.1) }
+pub returns-clause-few : goal.returns-clause-few
+returns-clause-few c =
+    let ps = c.args.points.now in
+    let few : Point → ℕ = λ p. min (point_size p) 44 in
+    let e : c.sum.result ≡ sum_by few ps =
+    sum_by_from_yields_List few ps _ _ c.sum.ensures.ran
+    (YieldsList-from_map _ few (YieldsList-at c.map.ensures.source (YieldsList-from_slice ps cc)) c.map.ensures.closure (λ p n q k. search rules)) in
+    omega (arith, e, sum_by-le few 44 ps (λ k d h. omega arith))

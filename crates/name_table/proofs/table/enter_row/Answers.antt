@@ -1,24 +1,37 @@
-use Rattle.std.proofs.Common.{refl}
-use Rattle.keyed.specs.Rows.{table, memory, room}
-use Rattle.name_table.proofs.Rows.{enters_known, enters_new, enters_full}
+use Rattle.std.proofs.Common.{◌≡◌, true, false, is_some, sym, refl, ap, ◌∙◌, rules}
+use Rattle.tokens.specs.Outcomes.{left_by, told}
+use Rattle.keyed.specs.Rows.{table, memory, room, find_key}
+use Rattle.name_table.specs.Keys.{same_pair}
+use Rattle.name_table.specs.Enter.{shown, any_clash}
+use Rattle.name_table.proofs.Rows.{row_told, decided-clash, enters_none, enters_known, enters_answer, enters_rows, enters_memory}
 use Rattle.name_table.proofs.table.enter_row.Goals as goal
+
+pub returns-then-any_clash : goal.returns-then-any_clash
+returns-then-any_clash c =
+    let t = c.args.table.now in
+    let names = shown c.args.file.now (table t) in
+    let there : any_clash c.args.file.now c.args.new (table t) ≡ true = cc in
+    let e = sym (enters_none c.args.file.now c.args.new (table t) there (room t)) in
+    record { answer = ap told e; rows = ap (left_by names) e; memory = sym (decided-clash c.args.file.now c.args.new (table t) there _ _ _); lender = refl }
 
 pub returns-then-is_some : goal.returns-then-is_some
 returns-then-is_some c =
     let t = c.args.table.now in
-    let e = enters_known c.args.file.now c.args.new (table t) (room t) c.live.result.now c.live.ensures c.if-any_clash.ensures c.find.result c.find.ensures.place (memory t) c.if-is_some.ensures in
+    let apart : any_clash c.args.file.now c.args.new (table t) ≡ false = cc in
+    let there : is_some (find_key same_pair c.args.new.key (table t)) ≡ true = cc in
+    let e = enters_known c.args.file.now c.args.new (table t) apart (room t) (memory t) there in
     record { answer = e.0; rows = e.1; memory = e.2; lender = refl }
 
-pub returns-in-Ok : goal.returns-in-Ok
-returns-in-Ok c =
+pub returns : goal.returns
+returns c =
     let t = c.args.table.now in
-    let a = c.in-Ok.ensures in
-    let e = enters_new c.args.file.now c.args.new (table t) (room t) c.live.result.now c.live.ensures c.if-any_clash.ensures c.find.result c.find.ensures.place (memory t) c.if-is_some.ensures _ (table c.insert.new.self) (memory c.insert.new.self) a.answer a.rows a.memory in
-    record { answer = e.0; rows = e.1; memory = e.2; lender = a.lender }
-
-pub returns-in-Err : goal.returns-in-Err
-returns-in-Err c =
-    let t = c.args.table.now in
-    let a = c.in-Err.ensures in
-    let e = enters_full c.args.file.now c.args.new (table t) (room t) c.live.result.now c.live.ensures c.if-any_clash.ensures c.find.result c.find.ensures.place (memory t) c.if-is_some.ensures _ (table c.insert.new.self) (memory c.insert.new.self) a.answer a.rows a.memory in
-    record { answer = e.0; rows = e.1; memory = e.2; lender = a.lender }
+    let i = c.insert.ensures in
+    let apart : any_clash c.args.file.now c.args.new (table t) ≡ false = cc in
+    let missing : is_some (find_key same_pair c.args.new.key (table t)) ≡ false = cc in
+    let e : c.map_err.result ≡ row_told c.insert.result = search rules in
+    record {
+      answer = e ∙ ap row_told i.answer ∙ enters_answer c.args.file.now c.args.new (table t) apart (room t) (memory t) missing;
+      rows = ap (shown c.args.file.now) i.rows ∙ enters_rows c.args.file.now c.args.new (table t) apart (room t) (memory t) missing;
+      memory = i.memory ∙ enters_memory c.args.file.now c.args.new (table t) apart (room t) (memory t) missing;
+      lender = i.lender;
+    }

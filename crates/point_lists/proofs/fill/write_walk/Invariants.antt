@@ -1,4 +1,4 @@
-use Rattle.std.proofs.Common.{◌≡◌, ◌+◌, ◌-◌}
+use Rattle.std.proofs.Common.{◌≡◌, ◌-◌, length}
 use Rattle.point_lists.specs.Rolls.{unrolled, tally}
 use Rattle.point_lists.specs.Walks.{advanced, Steady}
 use Rattle.point_lists.specs.Lists.{walked}
@@ -6,8 +6,8 @@ use Rattle.point_lists.specs.Fills.{written, filled}
 use Rattle.point_lists.proofs.fill.write_walk.Given as goal
 
 -- what is left to write, behind what was written, is the whole
-abbrev pub invariant-loop-i : goal.invariant-loop-i
-invariant-loop-i l =
-    Steady l.walk
-    × (tally (written l.first) (record { points = l.out; next = l.i + 1; last = l.walk.at }) (unrolled (advanced l.kind l.file) (l.count - l.i) l.place l.walk)
-    ≡ filled l.first l.initial.out (walked l.kind l.count l.file l.at))
+abbrev pub invariant-loop-vertex : goal.invariant-loop-vertex
+invariant-loop-vertex l =
+    Steady l.step.value
+    × (tally (written l.first) (record { points = l.out; next = l.vertex-index; last = l.step.value.at }) (unrolled (advanced l.file) (length l.initial.out - l.vertex-index) l.step.next l.step.value)
+    ≡ filled l.first l.initial.out (walked l.fn.kind (length l.initial.out) l.file l.at))

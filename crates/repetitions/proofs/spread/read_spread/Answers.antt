@@ -13,8 +13,8 @@ returns-in_err-space c =
           ∙ c.loop-i.invariant.1;
     }
 
-pub plus-whole-requires : goal.plus-whole-requires
-plus-whole-requires c =
+pub add-whole-requires : goal.add-whole-requires
+add-whole-requires c =
     let h = c.loop-i.invariant.0 in
     let k = ((space_made c.args.listing.axis c.args.file.now c.loop-i.place).on _ c.in_ok-space.ensures.reads).2 in
     (record { x = omega (arith, h.x, c.requires); y = omega (arith, h.y, c.requires) }, record { x = omega (arith, k.x); y = omega (arith, k.y) })
@@ -22,7 +22,7 @@ plus-whole-requires c =
 pub loop-i-preserved : goal.loop-i-preserved
 loop-i-preserved c =
     let k = ((space_made c.args.listing.axis c.args.file.now c.loop-i.place).on _ c.in_ok-space.ensures.reads).2 in
-    rw (c.grow_reached-bounds.ensures, c.on_grid.ensures.stands, c.plus-whole.ensures.adds) (
+    rw (c.grow_reached-bounds.ensures, c.on_grid.ensures.stands, c.add-whole.ensures) (
       sum_near c.loop-i._i _ _ c.loop-i.invariant.0 k,
       sym (series_more (space_at c.args.listing.axis) _ c.args.file.now c.args.listing.spaces c.loop-i._i c.loop-i.place _ (omega arith) c.in_ok-space.ensures.reads)
           ∙ c.loop-i.invariant.1,

@@ -1,9 +1,10 @@
-use Rattle.std.proofs.Common.{◌-◌, length, sym, ◌∙◌, arith}
-use Rattle.signature.proofs.Frames.{low_four}
+use Rattle.std.proofs.Common.{arith}
+use Rattle.signature.proofs.Frames.{last_four}
 use Rattle.signature.proofs.report.read_signature.Goals as goal
 
 pub returns : goal.returns
 returns c =
-    let stored = c.from_le_bytes-stored.ensures ∙ sym (low_four c.args.file.now (length c.args.file.now - 4) (omega (arith, c.requires))) in
-    let computed = c.checksum32-computed.ensures.value in
+    let computed = c.checksum32.ensures.value in
+    let stored = c.stored_at.ensures.holds in
+    let four = last_four c.args.file.now (omega (arith, c.requires)) in
     record { both = cc }

@@ -1,26 +1,21 @@
 -- The bytes of these values fit the buffer.
-use Rattle.std.proofs.Common.{arith, lit≤}
+use Rattle.std.proofs.Common.{rules}
 use Rattle.tokens.specs.Encodings.{shortest}
 use Rattle.encoding.proofs.Laying.{put-length}
 use Rattle.token_examples.proofs.tests.what_is_put_is_read_again.Goals as goal
 
-pub put_unsigned-next-requires : goal.put_unsigned-next-requires
+pub put_unsigned-requires : goal.put_unsigned-requires
 unfolding shortest
-put_unsigned-next-requires g c = lit≤ tt
+put_unsigned-requires g c = search rules
 
-pub put_signed-next-requires : goal.put_signed-next-requires
+pub put_signed-requires-clause-room : goal.put_signed-requires-clause-room
 unfolding shortest
-put_signed-next-requires g c = record { fits = lit≤ tt; room = omega (arith, put-length c.put_unsigned-next.ensures.puts) }
+put_signed-requires-clause-room g c = search (rules, put-length)
 
-pub put_g_delta-next-requires : goal.put_g_delta-next-requires
+pub put_g_delta-requires-clause-room : goal.put_g_delta-requires-clause-room
 unfolding shortest
-put_g_delta-next-requires g c =
-    record {
-      fits = (lit≤ tt, lit≤ tt);
-      room = omega (arith, put-length c.put_unsigned-next.ensures.puts, put-length c.put_signed-next.ensures.puts);
-    }
+put_g_delta-requires-clause-room g c = search (rules, put-length)
 
-pub put_string-next-requires : goal.put_string-next-requires
+pub put_string-requires : goal.put_string-requires
 unfolding shortest
-put_string-next-requires g c =
-    omega (arith, put-length c.put_unsigned-next.ensures.puts, put-length c.put_signed-next.ensures.puts, put-length c.put_g_delta-next.ensures.puts)
+put_string-requires g c = search (rules, put-length)

@@ -1,9 +1,11 @@
-use Rattle.std.proofs.Common.{ap, ◌∙◌}
-use Rattle.keyed.specs.Rows.{find_key}
+use Rattle.std.proofs.Common.{rules, tests}
+use Rattle.std.proofs.lemmas.Iterator.{YieldsList-from_slice}
+use Rattle.std.proofs.lemmas.Iterator.Search.{position_from_yields_List}
+use Rattle.keyed.specs.Rows.{table, has_key}
 use Rattle.keyed.proofs.Finding.{found_is}
 use Rattle.keyed.proofs.table.Table.find.Goals as goal
 
 pub returns : goal.returns
 returns g c =
-    let e = c.position.ensures ∙ ap (find_key g.K.Key.same c.args.key) c.live.ensures in
-    record { place = e; found = found_is g.K.Key.same g.met.K.Key.decides c.args.key _ _ e }
+    let e = position_from_yields_List {all = table c.args.self.now} (has_key g.K.PartialEq.eq c.args.key) _ _ c.position.result c.position.ensures.ran (YieldsList-from_slice _ cc) (λ x b q k. search (rules, tests)) in
+    record { place = e; found = found_is g.K.PartialEq.eq g.met.K.Key.decides c.args.key _ _ e }

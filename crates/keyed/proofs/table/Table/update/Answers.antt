@@ -1,23 +1,16 @@
-use Rattle.std.proofs.Common.{sym, refl, arith, length-take}
-use Rattle.keyed.proofs.Tables.{take-updated, updated_past, changed_is, changed_not, is_in_use, is_not_in_use}
+use Rattle.std.proofs.Common.{◌<◌, length, sym, ◌∙◌, arith, length-take}
+use Rattle.std.proofs.lemmas.Bool.{cond-true, lt-ltb}
+use Rattle.keyed.specs.Rows.{table}
+use Rattle.keyed.proofs.Tables.{take-updated, updated_past, set_updated}
 use Rattle.keyed.proofs.table.Table.update.Goals as goal
 
-pub returns-then-i-n : goal.returns-then-i-n
-returns-then-i-n g c =
-    let rows = c.args.self.now.rows.now in
-    record {
-      answer = is_not_in_use rows c.args.self.now.used c.args.i (omega (arith, c.if-i-n.true, c.min-n.ensures));
-      rows = sym (updated_past _ _ _ (omega (arith, c.if-i-n.true, c.min-n.ensures, length-take c.args.self.now.used rows)));
-      memory = changed_not rows c.args.self.now.used c.args.i c.args.value (omega (arith, c.if-i-n.true, c.min-n.ensures));
-      lender = refl;
-    }
+pub returns-then-i-self-clause-rows : goal.returns-then-i-self-clause-rows
+returns-then-i-self-clause-rows g c = sym (updated_past _ _ _ (omega (arith, c.if-i-self.true, length-take c.args.self.now.used c.args.self.now.rows.now)))
 
-pub returns : goal.returns
-returns g c =
-    let rows = c.args.self.now.rows.now in
-    record {
-      answer = is_in_use rows c.args.self.now.used c.args.i (omega (arith, c.if-i-n.false, c.min-n.ensures));
-      rows = take-updated c.args.self.now.used c.args.i _ _ _ (omega (arith, c.if-i-n.false, c.min-n.ensures));
-      memory = changed_is rows c.args.self.now.used c.args.i _ c.args.value (omega (arith, c.if-i-n.false, c.min-n.ensures));
-      lender = refl;
-    }
+pub returns-clause-rows : goal.returns-clause-rows
+returns-clause-rows g c = take-updated c.args.self.now.used c.args.i _ _ _ (omega (arith, length-take c.args.self.now.used c.args.self.now.rows.now))
+
+pub returns-clause-memory : goal.returns-clause-memory
+returns-clause-memory g c =
+    let h : c.args.i < length (table c.args.self.now) = omega (arith, length-take c.args.self.now.used c.args.self.now.rows.now) in
+    set_updated _ c.args.i _ c.args.value ∙ sym (cond-true _ _ _ (lt-ltb _ _ h))

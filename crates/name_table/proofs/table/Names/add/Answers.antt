@@ -1,22 +1,20 @@
+use Rattle.std.proofs.Common.{length, ap, ◌∙◌}
 use Rattle.name_table.specs.Enter.{seen}
-use Rattle.name_table.proofs.Held.{add_held, answer_of, rows_of, memory_of, room_of}
+use Rattle.name_table.proofs.Rows.{memory-length}
+use Rattle.name_table.proofs.Held.{add_held}
 use Rattle.name_table.proofs.table.Names.add.Goals as goal
 
 pub returns : goal.returns
 returns g c =
     let n = c.args.self.now in
-    let f = c.args.fields in
-    let k = g.C.NameClass.implicit in
-    let i = c.implicit_id.ensures in
-    let t = c.take.ensures in
-    let a = answer_of n k _ i f c.args.at _ t.answer in
-    let l = rows_of n k _ i f _ t.rows in
+    let k = g.C.NameClass.IMPLICIT in
+    let t = simp c.IMPLICIT.ensures at c.take.ensures in
     record {
-      answer = a;
-      rows = l;
-      law = add_held n (seen n.file.now k f) c.args.at _ _ a l;
-      memory = memory_of n k _ i f _ t.memory;
-      room = room_of n k _ i f _ t.memory;
+      answer = t.answer;
+      rows = t.rows;
+      law = add_held n (seen n.file.now k c.args.fields) c.args.at _ _ t.answer t.rows;
+      memory = t.memory;
+      room = ap length t.memory ∙ memory-length n k c.args.fields;
       file = t.file;
       lender = t.lender;
     }

@@ -1,15 +1,16 @@
+use Rattle.std.proofs.Common.{◌≡◌, ap, ◌∙◌, rules}
+use Rattle.std.specs.Option.{option_map}
+use Rattle.tokens.specs.Parts.{bytes_in}
+use Rattle.keyed.specs.Rows.{table}
 use Rattle.name_table.specs.Enter.{view}
-use Rattle.name_table.proofs.Held.{found_part, found_bytes, find_held}
+use Rattle.name_table.proofs.Held.{find-shown, find_held}
 use Rattle.name_table.proofs.table.Names.find.Goals as goal
 
-pub returns-in-Some : goal.returns-in-Some
-returns-in-Some g c =
+pub returns : goal.returns
+returns g c =
     let n = c.args.self.now in
-    let e = found_bytes n g.C.NameClass.implicit c.implicit_id.result c.args.number _ _ c.bytes_of.ensures c.implicit_id.ensures c.in-Some.ensures.value in
-    record { part = e; law = λ rs h. find_held g.C.NameClass.implicit c.args.number (view n) rs _ e h }
-
-pub returns-in-None : goal.returns-in-None
-returns-in-None g c =
-    let n = c.args.self.now in
-    let e = found_part n g.C.NameClass.implicit c.implicit_id.result c.args.number _ c.implicit_id.ensures c.in-None.ensures.value in
-    record { part = e; law = λ rs h. find_held g.C.NameClass.implicit c.args.number (view n) rs _ e h }
+    let k = g.C.NameClass.IMPLICIT in
+    let e : option_map (λ x. x.now) c.map.result ≡ option_map (λ v. bytes_in n.file.now v.part) c.get.result = search rules in
+    let v = simp c.IMPLICIT.ensures at c.get.ensures.value in
+    let p = e ∙ ap (option_map (λ v. bytes_in n.file.now v.part)) v ∙ find-shown n.file.now (record { class = k; number = c.args.number }) (table n.table) in
+    record { part = p; law = λ rs h. find_held k c.args.number (view n) rs _ p h }

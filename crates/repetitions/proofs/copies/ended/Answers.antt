@@ -1,6 +1,0 @@
-use Rattle.std.proofs.Common.{refl}
-use Rattle.repetitions.proofs.Trails.{trail_none}
-use Rattle.repetitions.proofs.copies.ended.Goals as goal
-
-pub returns : goal.returns
-returns c = λ file. let w = c.args.walk in trail_none w.axis w.grid file 0 w.place w.whole refl
