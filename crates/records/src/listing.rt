@@ -19,20 +19,24 @@ fn lines_of(heap: Global, file: &[u8]) -> Result<Vec<u8>, AllocError>
     ensures lines { IfOk result (λ v. v.items ≡ trail_lines file.now (run file.now)) }
 {
     let mut out = Vec::new(heap);
-    let walk = match Walk::over(file) {
+    // The walk's own `next` and no `for`: the iterator copies each record once more.
+    let mut walk = match Walk::over(file) {
         Ok(walk) => walk,
         Err(fault) => {
             append_fault(heap, &mut out, fault)?;
             return Ok(out);
         }
     };
-    for found in walk {
-        match found {
-            Ok(found) => append_line(heap, &mut out, file, found)?,
-            Err(fault) => append_fault(heap, &mut out, fault)?,
+    loop {
+        match walk.next() {
+            Ok(Some(found)) => append_line(heap, &mut out, file, found)?,
+            Ok(None) => return Ok(out),
+            Err(fault) => {
+                append_fault(heap, &mut out, fault)?;
+                return Ok(out);
+            }
         }
     }
-    Ok(out)
 }
 
 /// What the program prints for an input.

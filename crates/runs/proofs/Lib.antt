@@ -3,3 +3,4 @@ pub mod Turns
 pub mod Sequences
 pub mod Wholes
 pub mod Passes
+pub mod Calls

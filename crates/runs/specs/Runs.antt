@@ -44,6 +44,18 @@ turn_in state.Ended r = Ok None
 abbrev pub turn : List ℕ → Position → Result (Option Step) Fault
 turn file p = turn_in p.context.state (stepped file p)
 
+-- the record of a step
+abbrev pub given_by : Result (Option Step) Fault → Result (Option RecordAt) Fault
+given_by (Ok (Some s)) = Ok (Some s.found)
+given_by (Ok None) = Ok None
+given_by (Err f) = Err f
+
+-- the position after a step, which is the old one where there is no step
+abbrev pub landing : Position → Result (Option Step) Fault → Position
+landing p (Ok (Some s)) = s.after
+landing p (Ok None) = p
+landing p (Err f) = p
+
 -- records in order, and how they end
 pub data Trail : Type 0 where
   more : RecordAt → Trail → Trail

@@ -1,5 +1,5 @@
 -- What a walk over the records of a file gives.
-use Rattle.std.specs.Prelude.{ℕ, List, [], ◌∷◌, Some, None, Ok, Err, Option, Result}
+use Rattle.std.specs.Prelude.{ℕ, cond, List, [], ◌∷◌, Some, None, Ok, Err, Option, Result}
 use Rattle.steps.specs.declared.fault.Fault.{Fault}
 use Rattle.steps.specs.declared.state.Position.{Position}
 use Rattle.steps.specs.declared.state.RecordAt.{RecordAt}
@@ -13,23 +13,27 @@ outcomes (more r t) = Ok r ∷ outcomes t
 outcomes done = []
 outcomes (broken f) = Err f ∷ []
 
--- what comes from a position on; nothing where the walk is over
+-- what comes from a position on; nothing where the iterator is over
 abbrev pub coming : List ℕ → Option Position → List (Result RecordAt Fault)
 coming file (Some p) = outcomes (walked file p)
 coming file None = []
 
+-- where the iterator stands: at the position of the walk, and nowhere once it has given a fault
+abbrev pub standing : Walk → Option Position
+standing w = cond w.faulted None (Some w.position)
+
 -- what is left of a walk
 abbrev pub left : Walk → List (Result RecordAt Fault)
-left w = coming w.file.now w.position
+left w = coming w.file.now (standing w)
 
--- what a turn gives: the record or the fault, and nothing behind END
-abbrev pub given_by : Result (Option Step) Fault → Option (Result RecordAt Fault)
-given_by (Ok (Some s)) = Some (Ok s.found)
-given_by (Ok None) = None
-given_by (Err f) = Some (Err f)
+-- what the iterator makes of a turn: the record or the fault, and nothing behind END
+abbrev pub item_by : Result (Option Step) Fault → Option (Result RecordAt Fault)
+item_by (Ok (Some s)) = Some (Ok s.found)
+item_by (Ok None) = None
+item_by (Err f) = Some (Err f)
 
--- where a walk at the position p stands after it: behind the record, still behind END, or nowhere at a fault
-abbrev pub landing : Position → Result (Option Step) Fault → Option Position
-landing p (Ok (Some s)) = Some s.after
-landing p (Ok None) = Some p
-landing p (Err f) = None
+-- where it then stands, if it stood at the position p: behind the record, still behind END, or nowhere at a fault
+abbrev pub standing_after : Position → Result (Option Step) Fault → Option Position
+standing_after p (Ok (Some s)) = Some s.after
+standing_after p (Ok None) = Some p
+standing_after p (Err f) = None

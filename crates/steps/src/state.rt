@@ -1,9 +1,9 @@
 //! What a record holds, and what is known between two records.
 
 ghost use Rattle.std.specs.Prelude.{◌≡◌};
-ghost use Rattle.steps.specs.States.{kept, reset as reset_to, varied, moded};
+ghost use Rattle.steps.specs.States.{kept, reset as reset_to, moded};
 
-use elements::{Drawn, Element};
+use elements::Element;
 use fields::{Modals, Reference};
 use frames::{End, Start};
 use names::NameFields;
@@ -75,57 +75,42 @@ pub struct Step {
     pub after: Position,
 }
 
-impl Context {
-    /// A record that changes nothing.
-    pub(crate) fn keep(self, content: Record) -> Found
-        ensures keeps { result ≡ kept self content }
-    {
-        Found {
-            content,
-            context: self,
-        }
+/// A record that changes nothing.
+pub fn keep(c: Context, content: Record) -> Found
+    ensures keeps { result ≡ kept c content }
+{
+    Found {
+        content,
+        context: c,
     }
+}
 
-    /// A record that resets the modal variables, and the state after it.
-    pub(crate) fn reset(self, state: FileState, content: Record) -> Found
-        ensures resets { result ≡ reset_to state self.late content }
-    {
-        Found {
-            content,
-            context: Context {
-                state,
-                modals: Modals::reset(),
-                ..self
-            },
-        }
+/// A record that resets the modal variables, and the state after it.
+pub fn reset(state: FileState, late: bool, content: Record) -> Found
+    ensures resets { result ≡ reset_to state late content }
+{
+    Found {
+        content,
+        context: Context {
+            state,
+            late,
+            modals: Modals::reset(),
+        },
     }
+}
 
-    /// An element, and the modal variables after it.
-    pub(crate) fn draw(self, drawn: Drawn) -> Found
-        ensures draws { result ≡ varied self (Record.Element drawn.element) drawn.modals }
-    {
-        Found {
-            content: Record::Element(drawn.element),
-            context: Context {
-                modals: drawn.modals,
-                ..self
+/// A record that says how coordinates are read from here on.
+pub fn set_mode(c: Context, relative: bool) -> Found
+    ensures sets { result ≡ moded c relative }
+{
+    Found {
+        content: Record::Mode(relative),
+        context: Context {
+            modals: Modals {
+                relative,
+                ..c.modals
             },
-        }
-    }
-
-    /// A record that says how coordinates are read from here on.
-    pub(crate) fn set_mode(self, relative: bool) -> Found
-        ensures sets { result ≡ moded self relative }
-    {
-        Found {
-            content: Record::Mode(relative),
-            context: Context {
-                modals: Modals {
-                    relative,
-                    ..self.modals
-                },
-                ..self
-            },
-        }
+            ..c
+        },
     }
 }

@@ -1,18 +1,28 @@
-use Rattle.std.proofs.Common.{rules, ap, length, arith}
-use Rattle.runs.proofs.Turns.{left-ended, left_step}
+use Rattle.std.proofs.Common.{true, Some, None, Ok, Err, refl, ◌∙◌}
+use Rattle.runs.specs.Walks.{left}
+use Rattle.runs.proofs.Turns.{first_progress, turned, turned_first}
 use Rattle.runs.proofs.walk.WalkIterator.next.Goals as goal
 
-pub returns-then-eq-clause-steps : goal.returns-then-eq-clause-steps
-returns-then-eq-clause-steps c =
-    let e = left-ended c.args.self.now.file.now c.args.self.now.position c.in_ok-position.position (search rules) (search rules) in
-    (e, e)
+pub returns-in-Ok-Some : goal.returns-in-Ok-Some
+returns-in-Ok-Some c =
+    let next = c.in-Ok-Some.ensures in
+    let item = Some (Ok c.in-Ok-Some.found) in
+    let t = turned c.args.self.now c.next.new.self (Ok (Some c.in-Ok-Some.found)) c.if-self.false (rw c.in-Ok-Some.field-0-is at next.answer) next.moved next.same (next.keeps ∙ c.if-self.false) in
+    let first = turned_first c.args.self.now c.next.new.self item t in
+    record { steps = first; goes = first_progress left c.args.self.now _ item first; answer = t.answer; moved = t.moved; waits = t.waits; stays = t.stays }
 
-pub returns-clause-steps : goal.returns-clause-steps
-returns-clause-steps c =
-    left_step c.args.self.now.file.now c.args.self.now.position c.in_ok-position.position c.step_at-step.result _ _
-    (search rules) (search rules) c.step_at-step.ensures.steps (search rules) (search rules)
+pub returns-in-Ok-None : goal.returns-in-Ok-None
+returns-in-Ok-None c =
+    let next = c.in-Ok-None.ensures in
+    let t = turned c.args.self.now c.next.new.self (Ok None) c.if-self.false (rw c.in-Ok-None.field-0-is at next.answer) next.moved next.same (next.keeps ∙ c.if-self.false) in
+    let first = turned_first c.args.self.now c.next.new.self None t in
+    record { steps = first; goes = first_progress left c.args.self.now _ None first; answer = t.answer; moved = t.moved; waits = t.waits; stays = t.stays }
 
-pub returns-clause-goes : goal.returns-clause-goes
-returns-clause-goes c =
-    let l = ap length (returns-clause-steps c) in
-    record { on = λ _. (tt, tt, omega arith); keeps = tt; rests = λ _. tt }
+pub returns-in-Err : goal.returns-in-Err
+returns-in-Err c =
+    let next = c.in-Err.ensures in
+    let item = Some (Err c.in-Err.fault) in
+    let marked = record c.next.new.self { faulted = true } in
+    let t = turned c.args.self.now marked (Err c.in-Err.fault) c.if-self.false next.answer next.moved next.same refl in
+    let first = turned_first c.args.self.now marked item t in
+    record { steps = first; goes = first_progress left c.args.self.now _ item first; answer = t.answer; moved = t.moved; waits = t.waits; stays = t.stays }
