@@ -1,13 +1,16 @@
 -- Copies by a list of spaces, in short.
 use Rattle.std.proofs.Common.{◌≡◌, ℕ, ◌+◌, List, Some, Ok, Err, sym, refl, ap, ◌∙◌}
-use Rattle.tokens.specs.Answers.{Answer, then}
+use Rattle.tokens.specs.declared.fault.Read.{Read}
+use Rattle.tokens.specs.Answers.{Answer, got, then}
+use Rattle.tokens.proofs.Chaining.{same_got, not_fault}
 use Rattle.bounds.specs.declared.point.Point.{Point}
 use Rattle.bounds.specs.Points.{origin}
 use Rattle.bounds.specs.Boxes.{nothing}
 use Rattle.repetitions.specs.declared.plan.Listing.{Listing}
+use Rattle.repetitions.specs.declared.summary.Summary.{Summary}
 use Rattle.repetitions.specs.Spaces.{space_at}
 use Rattle.repetitions.specs.Offsets.{spread}
-use Rattle.repetitions.specs.Repetitions.{reaching, reached_by, boxed, spaces_at, listed, summarised}
+use Rattle.repetitions.specs.Repetitions.{reaching, reached_by, boxed, spaces_at, listed, in_short, summarised}
 use Rattle.repetitions.proofs.Series.{then_same, series-length}
 use Rattle.repetitions.proofs.Reaches.{summed, spread-in_short}
 
@@ -28,3 +31,8 @@ listed-in_short file first l n =
     flat : (m : Answer (List Point)) → then (boxed l.grid origin (Some nothing) m) (summed first (l.spaces + 1)) ≡ then m (λ ds i. summed first (l.spaces + 1) (reached_by l.grid origin (Some nothing) ds) i)
     flat (Ok x) = refl
     flat (Err e) = refl
+
+-- what was summed up is a list of offsets in short
+pub summarised_parts : (r : Answer (List Point)) (x : Read Summary) → Ok x ≡ summarised r → (ps : List Point) × (got ps x.next ≡ r) × (x.value ≡ in_short ps)
+summarised_parts (Ok y) x e = let p = same_got {v = x.value} {m = x.next} e in (y.value, ap (λ n. got y.value n) p.1, p.0)
+summarised_parts (Err d) x e = not_fault e

@@ -2,7 +2,6 @@
 use Rattle.std.proofs.Common.{◌≡◌, ℕ, zero, suc, ◌+◌, ◌-◌, ◌*◌, ◌<◌, ◌≤◌, Bool, true, false, cond, List, [], ◌∷◌, map, Some, None, Ok, Err, Result, sym, refl, ap, ◌∙◌, subst, arith}
 use Rattle.std.proofs.lemmas.Bool.{and_parts, cond-true, cond-false}
 use Rattle.tokens.specs.declared.fault.Read.{Read}
-use Rattle.std.specs.Borrow.{Bor}
 use Rattle.tokens.specs.declared.fault.TokenFault.{TokenFault}
 use Rattle.tokens.specs.Answers.{Answer, got, then}
 use Rattle.tokens.specs.Chains.{largest}
@@ -13,12 +12,12 @@ use Rattle.bounds.proofs.Fitting.{near_within}
 use Rattle.repetitions.specs.declared.space.Axis.{Axis}
 use Rattle.repetitions.specs.declared.plan.Plan.{Plan}
 use Rattle.repetitions.specs.declared.plan.Plan.TheVariants.{Uniform, Listed}
-use Rattle.repetitions.specs.declared.copies.Copies.{Copies}
+use Rattle.repetitions.specs.declared.copies.CopyWalk.{CopyWalk}
 use Rattle.repetitions.specs.Offsets.{scaled, spread}
 use Rattle.repetitions.specs.Spaces.{space_at, series}
 use Rattle.repetitions.specs.Plans.{most_copies, plan, copies_of, Sound}
 use Rattle.repetitions.specs.Repetitions.{reachable, spaces_at, reaching, offsets, repetition}
-use Rattle.repetitions.specs.Walks.{furthest, standing, leading, following, trail, left_of, planned, opened, OpensTo}
+use Rattle.repetitions.specs.Walks.{furthest, standing, leading, following, trail, left_of, planned, begun, LeadsTo}
 use Rattle.repetitions.proofs.Mades.{space_made, sum_near, plan_made}
 use Rattle.repetitions.proofs.Orders.{origin_on}
 use Rattle.repetitions.proofs.Walks.{left_whole}
@@ -116,10 +115,10 @@ walk_gives file at ps n (Listed l) i z q =
     ∙ w.1
 
 -- a walk that was opened at a repetition gives its copies
-pub opened_gives : (file : Bor (List ℕ)) (at : ℕ) (r : Result Copies TokenFault) → r ≡ opened file (plan file.now at) → (ps : List Point) (n : ℕ) → repetition file.now at ≡ got ps n → OpensTo file.now r ps
+pub begun_gives : (file : List ℕ) (at : ℕ) (r : Result CopyWalk TokenFault) → r ≡ begun (plan file at) → (ps : List Point) (n : ℕ) → repetition file at ≡ got ps n → LeadsTo file r ps
 unfolding repetition
-opened_gives file at r o ps n q = subst (λ s. OpensTo file.now s ps) (sym o) (by (plan file.now at) refl q)
+begun_gives file at r o ps n q = subst (λ s. LeadsTo file s ps) (sym o) (by (plan file at) refl q)
   where
-    by : (m : Answer Plan) → m ≡ plan file.now at → then m (λ p i. offsets file.now at p i) ≡ got ps n → OpensTo file.now (opened file m) ps
-    by (Ok x) e t = (refl, walk_gives file.now at ps n x.value x.next ((plan_made file.now at).on x e).2 t)
+    by : (m : Answer Plan) → m ≡ plan file at → then m (λ p i. offsets file at p i) ≡ got ps n → LeadsTo file (begun m) ps
+    by (Ok x) e t = walk_gives file at ps n x.value x.next ((plan_made file at).on x e).2 t
     by (Err d) e t = not_fault (sym t)

@@ -14,6 +14,7 @@ use Rattle.repetitions.specs.declared.copies.MatrixWalk.{MatrixWalk}
 use Rattle.repetitions.specs.declared.copies.ListWalk.{ListWalk}
 use Rattle.repetitions.specs.declared.copies.Walk.{Walk}
 use Rattle.repetitions.specs.declared.copies.Walk.TheVariants.{InMatrix, ByList}
+use Rattle.repetitions.specs.declared.copies.CopyWalk.{CopyWalk}
 use Rattle.repetitions.specs.declared.copies.Copies.{Copies}
 use Rattle.repetitions.specs.Offsets.{scaled, row_from, rows_from}
 use Rattle.repetitions.specs.Spaces.{space_at}
@@ -69,18 +70,35 @@ abbrev pub left_of : List ℕ → Walk → List Point
 left_of file (InMatrix w) = matrix_left w
 left_of file (ByList w) = list_left file w
 
--- what a walk has yet to give
+-- what a walk has yet to give, where it is handed this file
+abbrev pub left_in : List ℕ → CopyWalk → List Point
+left_in file c = left_of file c.walk
+
+-- and in its own file
 abbrev pub to_give : Copies → List Point
-to_give c = left_of c.file.now c.walk
+to_give c = left_in c.file.now c.walk
 
 -- the walk over what is planned, where n is the place after the plan
 abbrev pub planned : Plan → ℕ → Walk
 planned (Uniform m) n = InMatrix (record { matrix = m; column = 0; row = 0 })
 planned (Listed l) n = ByList (record { listing = l; left = l.spaces + 1; place = n; whole = origin })
 
--- and in a file
+-- and as a walk that holds no file
+abbrev pub walk_of : Plan → ℕ → CopyWalk
+walk_of p n = record { walk = planned p n }
+
+abbrev pub begun : Answer Plan → Result CopyWalk TokenFault
+begun (Ok x) = Ok (walk_of x.value x.next)
+begun (Err e) = Err e
+
+-- a walk was opened, and where it is handed this file, it will give these copies
+abbrev pub LeadsTo : List ℕ → Result CopyWalk TokenFault → List Point → Type 0
+LeadsTo file (Ok c) ps = left_in file c ≡ ps
+LeadsTo file (Err e) ps = ⊥
+
+-- the walk over what is planned, beside a file
 abbrev pub opened : Bor (List ℕ) → Answer Plan → Result Copies TokenFault
-opened file (Ok x) = Ok (record { file = file; walk = planned x.value x.next })
+opened file (Ok x) = Ok (record { file = file; walk = walk_of x.value x.next })
 opened file (Err e) = Err e
 
 -- a walk was opened in this file, and it will give these copies

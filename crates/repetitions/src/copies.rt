@@ -9,7 +9,7 @@ ghost use Rattle.bounds.specs.Points.{Near, sum};
 ghost use Rattle.repetitions.specs.Spaces.{space_at};
 ghost use Rattle.repetitions.specs.Plans.{plan, Sound};
 ghost use Rattle.repetitions.specs.Repetitions.{repetition};
-ghost use Rattle.repetitions.specs.Walks.{furthest, inside, following, trail, matrix_left, list_left, to_give, planned, opened, OpensTo};
+ghost use Rattle.repetitions.specs.Walks.{furthest, inside, following, trail, matrix_left, list_left, left_in, to_give, planned, begun, LeadsTo, opened, OpensTo};
 
 use crate::plan::{Listing, Matrix, Plan, read_plan};
 use crate::space::read_space;
@@ -45,11 +45,18 @@ enum Walk {
     ByList(ListWalk),
 }
 
-/// A walk over the copies of a repetition: their offsets, one after the other.
+/// A walk over the copies of a repetition: their offsets, one after the other. It holds no part of the file, and is handed the
+/// file at each step.
+#[derive(Clone, Copy)]
+pub struct CopyWalk {
+    walk: Walk,
+}
+
+/// A walk over the copies of a repetition, beside its file: their offsets, one after the other.
 #[derive(Clone, Copy)]
 pub struct Copies<'f> {
     file: &'f [u8],
-    walk: Walk,
+    walk: CopyWalk,
 }
 
 impl MatrixWalk {
@@ -141,6 +148,18 @@ impl Walk {
     }
 }
 
+impl CopyWalk {
+    /// The offset of the next copy in this file, or `None` after the last one.
+    pub fn next_copy(&mut self, file: &[u8]) -> Option<Point>
+        ensures gives { YieldsFirst (left_in file.now) self.old result self.new }
+    {
+        match &mut self.walk {
+            Walk::InMatrix(walk) => walk.next_copy(),
+            Walk::ByList(walk) => walk.next_copy(file),
+        }
+    }
+}
+
 impl Iterator for Copies<'_> {
     type Item = Point;
 
@@ -154,23 +173,30 @@ impl Iterator for Copies<'_> {
         ensures goes { MakesProgress (λ _. ⊤) (item_count to_give) self.old result self.new }
         ensures stays { self.new.file ≡ self.old.file }
     {
-        let file = self.file;
-        match &mut self.walk {
-            Walk::InMatrix(walk) => walk.next_copy(),
-            Walk::ByList(walk) => walk.next_copy(file),
-        }
+        self.walk.next_copy(self.file)
     }
 }
 
 impl FusedIterator for Copies<'_> {}
 
-/// A walk over the copies of the repetition at the place `at`. Only what stands before a list of spaces is read here, and no
-/// copy is tested: of a repetition that is at fault the walk may give some copies all the same.
+/// A walk over the copies of the repetition at the place `at`, which is handed the file at each step. Only what stands before a
+/// list of spaces is read here, and no copy is tested: of a repetition that is at fault the walk may give some copies all the
+/// same.
+pub fn open_walk(file: &[u8], at: usize) -> Result<CopyWalk, TokenFault>
+    ensures opens { result ≡ begun (plan file.now at) }
+    ensures gives { (ps : List Point) (n : ℕ) → repetition file.now at ≡ got ps n → LeadsTo file.now result ps }
+{
+    let plan = read_plan(file, at)?;
+    let walk = Walk::begin(plan.value, plan.next);
+    Ok(CopyWalk { walk })
+}
+
+/// A walk over the copies of the repetition at the place `at`, as an iterator. Only what stands before a list of spaces is read
+/// here, and no copy is tested: of a repetition that is at fault the walk may give some copies all the same.
 pub fn open_copies(file: &[u8], at: usize) -> Result<Copies<'_>, TokenFault>
     ensures opens { result ≡ opened file.entry (plan file.now at) }
     ensures gives { (ps : List Point) (n : ℕ) → repetition file.now at ≡ got ps n → OpensTo file.now result ps }
 {
-    let plan = read_plan(file, at)?;
-    let walk = Walk::begin(plan.value, plan.next);
+    let walk = open_walk(file, at)?;
     Ok(Copies { file, walk })
 }

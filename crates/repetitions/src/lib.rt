@@ -12,7 +12,7 @@ mod space;
 mod spread;
 mod summary;
 
-pub use copies::{Copies, open_copies};
+pub use copies::{Copies, CopyWalk, open_copies, open_walk};
 pub use laws::laws_of_repetitions;
 pub use plan::MOST_COPIES;
 pub use summary::{Summary, read_repetition};

@@ -2,7 +2,7 @@
 //! reach.
 
 use bounds::Point;
-use repetitions::{open_copies, read_repetition};
+use repetitions::{CopyWalk, open_copies, open_walk, read_repetition};
 use std::process::Abort;
 use std::test::Fail;
 use tokens::{Read, TokenFault};
@@ -85,6 +85,34 @@ fn listed_types(rt: HostRuntime) -> Result<(), Fail> {
         &[0x0b, 0x00, 0x0a, 0xbb, 0x01, 0xb7, 0x0f],
         &[(0, 0), (-460, -9870)],
     )
+}
+
+// The next copy in this file is at x.
+fn stepped(rt: &impl Abort, walk: &mut CopyWalk, file: &[u8], x: i64) {
+    assert_eq!(rt; walk.next_copy(file), Some(Point { x, y: 0 }));
+}
+
+// The walk holds no part of the file: each step reads the next space in the file that it is handed.
+#[test]
+fn a_walk_is_handed_its_file(rt: HostRuntime) -> Result<(), Fail> {
+    let mut file = [0x04, 0x01, 0x0a, 0x14];
+    let Ok(mut walk) = open_walk(&file, 0) else {
+        return Err(Fail::new("a walk was due"));
+    };
+    let mut cut = walk;
+    file[2] = 0x0b;
+    stepped(&rt, &mut walk, &file, 0);
+    let mut other = walk;
+    file[3] = 0x15;
+    stepped(&rt, &mut walk, &file, 11);
+    stepped(&rt, &mut walk, &file, 32);
+    assert!(rt; walk.next_copy(&file).is_none());
+    stepped(&rt, &mut other, &[0, 0, 0, 0x64], 11);
+    stepped(&rt, &mut other, &[], 111);
+    assert!(rt; other.next_copy(&file).is_none());
+    stepped(&rt, &mut cut, &[], 0);
+    assert!(rt; cut.next_copy(&file).is_none());
+    Ok(())
 }
 
 #[test]
