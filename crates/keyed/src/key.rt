@@ -1,15 +1,23 @@
 //! What a key and a value have to be able to do.
 
-ghost use Rattle.std.specs.Prelude.{◌≡◌, Decides};
+ghost use Rattle.std.specs.Prelude.{◌≡◌, Bool, Decides};
 
-/// A key by which rows are found. Two keys that compare as equal are one.
-pub trait Key: Copy + Eq {
-    ghost decides: { (a b : Self) → Decides (Self.PartialEq.eq a b) (a ≡ b) };
+/// A key by which rows are found. Its own `==`, if it has one, may be another test.
+pub trait Key: Copy {
+    ghost same: { Self → Self → Bool };
+
+    /// Whether two keys are the same.
+    fn is(&self, other: &Self) -> bool
+        ensures { result ≡ same self.now other.now };
+
+    ghost decides: { (a b : Self) → Decides (same a b) (a ≡ b) };
 }
 
-/// What rows are cleared to: the default, which is one value.
-pub trait Zero: Copy + Default {
+/// What rows are cleared to. The type's own default, if it has one, may be another value.
+pub trait Zero: Copy {
     ghost zero: { Self };
 
-    ghost only_zero: { (x : Self) → Self.Default.is_default x → x ≡ zero };
+    /// The value with zeros in all fields.
+    fn zeroed() -> Self
+        ensures { result ≡ zero };
 }

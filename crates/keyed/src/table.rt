@@ -1,6 +1,6 @@
 //! The table.
 
-ghost use Rattle.std.specs.Prelude.{◌≡◌, ◌≤◌, [], length, replicate, nat_lt};
+ghost use Rattle.std.specs.Prelude.{◌≡◌, ◌≤◌, ◌&&◌, [], length, replicate, ◌==◌, nat_lt};
 ghost use Rattle.std.specs.List.{slice_get, find};
 ghost use Rattle.std.specs.Option.{option_map};
 ghost use Rattle.keyed.specs.Found.{Found};
@@ -33,7 +33,10 @@ pub fn clear_rows<K: Zero, V: Zero>(rows: &mut [Entry<K, V>])
     ensures zeros { rows.new ≡ replicate (length rows.old) (record { key = K.Zero.zero; value = V.Zero.zero }) }
 {
     // Not `fill`, which asks for a clone that cannot fail, and of a `Copy` type parameter that is not known.
-    let zero = Entry::default();
+    let zero = Entry {
+        key: K::zeroed(),
+        value: V::zeroed(),
+    };
     rows.fill_with(move || zero);
 }
 
@@ -72,19 +75,19 @@ impl<'r, K: Key, V: Copy> Table<'r, K, V> {
 
     /// The place of the first row with the key.
     pub fn find(&self, key: K) -> Option<usize>
-        ensures place { result ≡ find_key K.PartialEq.eq key (table self.now) }
+        ensures place { result ≡ find_key K.Key.same key (table self.now) }
         ensures found { Found key (table self.now) result }
     {
-        self.live().iter().position(|row| row.key == key)
+        self.live().iter().position(|row| row.key.is(&key))
     }
 
     /// The value of the first row with the key.
     pub fn get(&self, key: K) -> Option<V>
-        ensures value { result ≡ option_map (λ row. row.value) (find (has_key K.PartialEq.eq key) (table self.now)) }
+        ensures value { result ≡ option_map (λ row. row.value) (find (has_key K.Key.same key) (table self.now)) }
     {
         self.live()
             .iter()
-            .find(|row| row.key == key)
+            .find(|row| row.key.is(&key))
             .map(|row| row.value)
     }
 
@@ -146,19 +149,81 @@ mod tests {
     }
 
     impl Key for Pair {
+        ghost same = { ⟦<Pair as PartialEq>⟧.eq };
+
         ghost decides = { Prim.search rules };
+
+        fn is(&self, other: &Pair) -> bool {
+            self == other
+        }
     }
 
     impl Zero for Pair {
         ghost zero = { record { layer = 0; datatype = 0 } };
 
-        ghost only_zero = { Prim.search rules };
+        fn zeroed() -> Pair {
+            Pair::default()
+        }
     }
 
     impl Zero for u8 {
         ghost zero = { 0 };
 
-        ghost only_zero = { λ x e. e };
+        fn zeroed() -> u8 {
+            u8::default()
+        }
+    }
+
+    // Two issues of a sheet compare as equal, and are two keys.
+    #[derive(Clone, Copy)]
+    #[derive_where(PartialEq, Eq)]
+    struct Sheet {
+        number: u64,
+        #[derive_where(skip(EqHashOrd))]
+        issue: u64,
+    }
+
+    impl Key for Sheet {
+        ghost same = { λ a b. (a.number == b.number) && a.issue == b.issue };
+
+        ghost decides = { Prim.search rules };
+
+        fn is(&self, other: &Sheet) -> bool {
+            self.number == other.number && self.issue == other.issue
+        }
+    }
+
+    impl Zero for Sheet {
+        ghost zero = { record { number = 0; issue = 0 } };
+
+        fn zeroed() -> Sheet {
+            Sheet {
+                number: 0,
+                issue: 0,
+            }
+        }
+    }
+
+    // A scale is of 100 percent by default, and has no `==`.
+    #[derive(Clone, Copy)]
+    struct Scale {
+        percent: u64,
+    }
+
+    impl Default for Scale {
+        ghost is_default = { λ scale. scale.percent ≡ 100 };
+
+        fn default() -> Scale {
+            Scale { percent: 100 }
+        }
+    }
+
+    impl Zero for Scale {
+        ghost zero = { record { percent = 0 } };
+
+        fn zeroed() -> Scale {
+            Scale { percent: 0 }
+        }
     }
 
     fn of(layer: u64, datatype: u64) -> Pair {
@@ -189,5 +254,28 @@ mod tests {
         table.clear();
         assert_eq!(rt; table.len(), 0);
         assert!(rt; table.get(of(0, 0)).is_none());
+    }
+
+    #[test]
+    fn asks_for_no_equality_and_no_default(rt: HostRuntime) {
+        let sheet = |issue| Sheet { number: 5, issue };
+        let mut rows = [Entry {
+            key: sheet(9),
+            value: Scale::default(),
+        }; 2];
+        let mut table = Table::new(&mut rows);
+        assert!(rt; table.insert(sheet(1), Scale { percent: 50 }).is_ok());
+        assert!(rt; table.insert(sheet(2), Scale::default()).is_ok());
+        assert!(rt; sheet(1) == sheet(2));
+        assert_eq!(rt; table.find(sheet(2)), Some(1));
+        assert_eq!(rt; table.get(sheet(2)).map(|scale| scale.percent), Some(100));
+        assert!(rt; table.find(sheet(3)).is_none());
+        table.clear();
+        assert!(rt; table.find(sheet(1)).is_none());
+        for row in &rows {
+            assert_eq!(rt; row.key.number, 0);
+            assert_eq!(rt; row.key.issue, 0);
+            assert_eq!(rt; row.value.percent, 0);
+        }
     }
 }

@@ -20,8 +20,8 @@ fn same_name(file: &[u8], a: Part, b: Part) -> bool
 }
 
 // Whether the rows are of one class, and of two kinds, or one of number and name is the same and the other is not.
-fn clashes(file: &[u8], row: NameRow, new: NameRow) -> bool
-    ensures { result ≡ clash (row_of file.now row) (row_of file.now new) }
+fn clashes(file: &[u8], row: &NameRow, new: &NameRow) -> bool
+    ensures { result ≡ clash (row_of file.now row.now) (row_of file.now new.now) }
 {
     row.key.class == new.key.class
         && (row.value.given != new.value.given
@@ -33,7 +33,7 @@ fn clashes(file: &[u8], row: NameRow, new: NameRow) -> bool
 pub fn any_clash(file: &[u8], rows: &[NameRow], new: NameRow) -> bool
     ensures { result ≡ any_clash file.now new rows.now }
 {
-    rows.iter().any(|row| clashes(file, *row, new))
+    rows.iter().any(|row| clashes(file, row, &new))
 }
 
 // How many of the rows are of the class.

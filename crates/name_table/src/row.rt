@@ -3,7 +3,7 @@
 //! The cell name `ABC` with the number 5, which stands from place 40 on in a record that gives its number, has the row of
 //! class 3 and number 5, with place 40, size 3 and a number that was given.
 
-ghost use Rattle.name_table.specs.Keys.{no_key, no_part};
+ghost use Rattle.name_table.specs.Keys.{same_pair, no_key, no_part};
 ghost use Rattle.std.proofs.Common.{rules};
 
 use keyed::{Entry, Key, Zero};
@@ -31,17 +31,27 @@ pub struct NamePart {
 pub type NameRow = Entry<NameKey, NamePart>;
 
 impl Key for NameKey {
+    ghost same = { same_pair };
+
     ghost decides = { Prim.search rules };
+
+    fn is(&self, other: &NameKey) -> bool {
+        self == other
+    }
 }
 
 impl Zero for NameKey {
     ghost zero = { no_key };
 
-    ghost only_zero = { Prim.search rules };
+    fn zeroed() -> NameKey {
+        NameKey::default()
+    }
 }
 
 impl Zero for NamePart {
     ghost zero = { no_part };
 
-    ghost only_zero = { Prim.search rules };
+    fn zeroed() -> NamePart {
+        NamePart::default()
+    }
 }

@@ -6,13 +6,15 @@ use Rattle.name_table.specs.Enter.{shown, any_clash}
 use Rattle.name_table.proofs.Rows.{row_told, decided-clash, enters_none, enters_known, enters_answer, enters_rows, enters_memory}
 use Rattle.name_table.proofs.table.enter_row.Goals as goal
 
+-- the answer by `search`, so that another fault behind the same test is refused for its value
 pub returns-then-any_clash : goal.returns-then-any_clash
 returns-then-any_clash c =
     let t = c.args.table.now in
     let names = shown c.args.file.now (table t) in
     let there : any_clash c.args.file.now c.args.new (table t) ≡ true = cc in
     let e = sym (enters_none c.args.file.now c.args.new (table t) there (room t)) in
-    record { answer = ap told e; rows = ap (left_by names) e; memory = sym (decided-clash c.args.file.now c.args.new (table t) there _ _ _); lender = refl }
+    let conflict = ap told e in
+    record { answer = search (rules, conflict); rows = ap (left_by names) e; memory = sym (decided-clash c.args.file.now c.args.new (table t) there _ _ _); lender = refl }
 
 pub returns-then-is_some : goal.returns-then-is_some
 returns-then-is_some c =
