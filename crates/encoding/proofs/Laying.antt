@@ -78,6 +78,21 @@ part_set d n k s h q =
 pub put-length : {b c : Buffer} {s : List ℕ} → Put b s c → length c.bytes.now ≡ length b.bytes.now
 put-length {b} {c} {s} p = ap length p.memory ∙ laid-length b.bytes.now b.at s p.fits
 
+-- what stands before the place behind the bytes
+pub put_front : {b c : Buffer} {s : List ℕ} → Put b s c → take c.at c.bytes.now ≡ take b.at b.bytes.now ++ s
+put_front {b} {c} {s} p =
+    ap (λ k. take k c.bytes.now) p.next
+    ∙ ap (take (b.at + length s)) p.memory
+    ∙ laid_front b.bytes.now b.at s p.fits
+
+-- what stands behind it
+pub put_back : {b c : Buffer} {s : List ℕ} → Put b s c → drop c.at c.bytes.now ≡ drop c.at b.bytes.now
+put_back {b} {c} {s} p =
+    ap (λ k. drop k c.bytes.now) p.next
+    ∙ ap (drop (b.at + length s)) p.memory
+    ∙ laid_back b.bytes.now b.at s p.fits
+    ∙ ap (λ k. drop k b.bytes.now) (sym p.next)
+
 -- some bytes put, and others behind them
 pub put_then : {b c d : Buffer} {s t : List ℕ} → Put b s c → Put c t d → Put b (s ++ t) d
 put_then {b} {c} {d} {s} {t} p q =

@@ -6,6 +6,11 @@ ghost use Rattle.encoding.specs.Laid.{Room, Put};
 
 use encoding::Buffer;
 
+// How many digits there are.
+const RADIX: u64 = 10;
+
+const MINUS: u8 = b'-';
+
 /// How many digits an integer has.
 pub fn decimal_size(n: u64) -> u128
     ensures digits { result ≡ length (decimal n) }
@@ -27,7 +32,13 @@ pub fn put_decimal(out: &mut Buffer<'_>, n: u64)
     requires { Room out.old (decimal n) }
     ensures puts { Put out.old (decimal n) out.new }
 {
-    out.put_bytes(itoa::Buffer::new().format(n).as_bytes());
+    let digit = b'0' + (n % RADIX) as u8;
+    if n < RADIX {
+        out.put_byte(digit);
+        return;
+    }
+    put_decimal(out, n / RADIX);
+    out.put_byte(digit);
 }
 
 /// Puts a signed integer.
@@ -35,5 +46,11 @@ pub fn put_integer(out: &mut Buffer<'_>, z: i64)
     requires { Room out.old (signed_decimal z) }
     ensures puts { Put out.old (signed_decimal z) out.new }
 {
-    out.put_bytes(itoa::Buffer::new().format(z).as_bytes());
+    let size = z.unsigned_abs();
+    if z >= 0 {
+        put_decimal(out, size);
+        return;
+    }
+    out.put_byte(MINUS);
+    put_decimal(out, size);
 }

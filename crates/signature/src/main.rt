@@ -13,5 +13,6 @@ use std::io::Read;
 fn main(rt: HostRuntime) -> io::Result<()> {
     let mut file = Vec::new(rt.alloc());
     rt.stdin().read_to_end(&mut file)?;
-    rt.print(report::examine(file.as_slice()))
+    let report = report::examine(file.as_slice());
+    rt.print(text::text_of(rt.alloc(), report)?)
 }

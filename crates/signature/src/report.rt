@@ -1,7 +1,8 @@
 //! What the two ends of a file say: the magic bytes that it begins with, and the checksum that its last four bytes hold.
 
 ghost use Rattle.std.specs.Prelude.{◌≡◌, ℕ, ◌≤◌, List, length, Ok, OnOk, ◌==◌};
-ghost use Rattle.signature.specs.Frames.{signature_of, report_of, signed_by, Framed};
+ghost use Rattle.checksum.specs.Ends.{has_magic};
+ghost use Rattle.signature.specs.Frames.{signature_of, findings, report_of, signed_by, Framed};
 
 use checksum::{MAGIC, STORED_BYTES, checksum32, has_magic, stored_at};
 
@@ -57,15 +58,15 @@ fn read_signature(file: &[u8]) -> Signature
     }
 }
 
-/// What an input says of itself.
-pub fn examine(file: &[u8]) -> Report
-    ensures report { result ≡ report_of file.now }
-    ensures framed { (body mark : List ℕ) → Framed file.now body mark → result.signature ≡ Ok (signed_by body mark) }
-    ensures unframed { OnOk result.signature ((body : List ℕ) × (mark : List ℕ) × Framed file.now body mark) }
+// Both checksums of a file with or without the magic, or why there are none.
+fn find_signature(file: &[u8], magic: bool) -> Result<Signature, Absence>
+    requires { magic ≡ has_magic file.now }
+    ensures found { result ≡ findings file.now }
+    ensures framed { (body mark : List ℕ) → Framed file.now body mark → result ≡ Ok (signed_by body mark) }
+    ensures unframed { OnOk result ((body : List ℕ) × (mark : List ℕ) × Framed file.now body mark) }
 {
     let length = file.len();
-    let magic = has_magic(file);
-    let signature = if length == 0 {
+    if length == 0 {
         Err(Absence::Empty)
     } else if length < SHORTEST {
         Err(Absence::TooShort)
@@ -73,11 +74,20 @@ pub fn examine(file: &[u8]) -> Report
         Ok(read_signature(file))
     } else {
         Err(Absence::NoMagic)
-    };
+    }
+}
+
+/// What an input says of itself.
+pub fn examine(file: &[u8]) -> Report
+    ensures report { result ≡ report_of file.now }
+    ensures framed { (body mark : List ℕ) → Framed file.now body mark → result.signature ≡ Ok (signed_by body mark) }
+    ensures unframed { OnOk result.signature ((body : List ℕ) × (mark : List ℕ) × Framed file.now body mark) }
+{
+    let magic = has_magic(file);
     Report {
-        length,
+        length: file.len(),
         magic,
-        signature,
+        signature: find_signature(file, magic),
     }
 }
 

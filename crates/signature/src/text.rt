@@ -1,9 +1,10 @@
 //! The report as text, one fact a line.
 
-ghost use Rattle.std.specs.Prelude.{◌≡◌, Some};
+ghost use Rattle.std.specs.Prelude.{◌≡◌, Some, IfOk, string_bytes};
 ghost use Rattle.signature.specs.Lines.{yes_no, reason_of, checksum_lines, text_of};
 
 use crate::report::{Absence, Report, Signature};
+use std::alloc::{AllocError, Global};
 use std::fmt;
 
 fn yes_no(answer: bool) -> &'static str
@@ -54,4 +55,11 @@ impl fmt::Display for Report {
             ),
         }
     }
+}
+
+/// The lines of a report, made whole before any of them is printed: what is printed is the text, or nothing.
+pub fn text_of(heap: Global, report: Report) -> Result<String, AllocError>
+    ensures text { IfOk result (λ s. string_bytes s ≡ text_of report) }
+{
+    format!(in heap; "{report}")
 }

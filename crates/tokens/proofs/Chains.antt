@@ -1,7 +1,7 @@
 -- Lemmas on chains: a loop that has read some bytes of one, and what is left.
-use Rattle.std.proofs.Common.{◌≡◌, ℕ, zero, suc, ◌+◌, ◌-◌, ◌*◌, ◌%◌, ◌^◌, ◌<◌, ◌≤◌, List, length, min, get_or, take, drop, Ok, Err, Result, sym, refl, mod-eq_of_lt, mul_assoc, mul_comm, mul-add, arith}
+use Rattle.std.proofs.Common.{◌≡◌, ℕ, zero, suc, ◌+◌, ◌-◌, ◌*◌, ◌%◌, ◌^◌, ◌<◌, ◌≤◌, List, length, get_or, drop, Ok, Err, Result, sym, refl, mod-eq_of_lt, mul_assoc, mul_comm, mul-add, arith}
 use native.Mathlib.Nat.{pow-le-pow_right}
-use Rattle.std.proofs.lemmas.List.{drop_more, drop_all, get_or-take, length-take}
+use Rattle.std.proofs.lemmas.List.{drop_more, drop_all}
 use Rattle.std.proofs.lemmas.Bool.{le-ltb, lt-ltb}
 use Rattle.tokens.specs.declared.fault.FaultKind.TheVariants.{Cut, Wide}
 use Rattle.tokens.specs.declared.fault.FaultKind.{FaultKind}
@@ -35,17 +35,6 @@ chain_last k zero bs h e l = absurd (omega arith)
 -- a byte that others follow
 chain_more : (k room : ℕ) (bs : List ℕ) → k < length bs → radix ≤ get_or bs k 0 → chain (suc room) (drop k bs) ≡ before (get_or bs k 0) (chain room (drop (k + 1) bs))
 chain_more k room bs e l = rw (drop_more bs k 0 e, le-ltb _ _ l)
-
--- a byte of the front, of the m bytes that a chain may have at most, stands at its place in all of them
-pub record InFront (m k : ℕ) (bs : List ℕ) : Type 0 where
-  pub few : k < chain_bytes
-  pub inside : k < length bs
-  pub same : get_or (take m bs) k 0 ≡ get_or bs k 0
-
-pub in_front : {m k : ℕ} (bs : List ℕ) → m ≡ min (length bs) chain_bytes → k < length (take m bs) → InFront m k bs
-in_front {m} {k} bs e h =
-    let few : k < m = omega (arith, length-take m bs) in
-    record { few = omega arith; inside = omega (arith, length-take m bs); same = get_or-take m bs k 0 few }
 
 -- what a loop keeps that has read k bytes: those and the chain that is left are the whole chain
 abbrev pub Reading : ℕ → ℕ → ℕ → List ℕ → Type 0

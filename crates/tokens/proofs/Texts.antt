@@ -1,11 +1,11 @@
 -- Lemmas on strings.
-use Rattle.std.proofs.Common.{◌≡◌, ℕ, ◌+◌, ◌-◌, ◌<◌, ◌≤◌, true, false, leb, List, length, take, drop, Ok, sym, refl, arith, length-drop}
+use Rattle.std.proofs.Common.{◌≡◌, ℕ, ◌+◌, ◌-◌, ◌<◌, ◌≤◌, true, false, leb, List, length, take, drop, Ok, sym, refl, ap, arith, length-drop}
 use Rattle.std.proofs.lemmas.List.{length-take-le}
 use Rattle.std.proofs.lemmas.Bool.{le-leb, lt-leb, leb-true}
 use Rattle.tokens.specs.declared.fault.FaultKind.TheVariants.{Cut, BadString}
 use Rattle.tokens.specs.declared.fault.Read.{Read}
 use Rattle.tokens.specs.declared.text.StringRule.{StringRule}
-use Rattle.tokens.specs.Answers.{fault}
+use Rattle.tokens.specs.Answers.{got, fault}
 use Rattle.tokens.specs.Chains.{largest, unsigned}
 use Rattle.tokens.specs.Laws.{TextMade}
 use Rattle.tokens.specs.Texts.{obeys, text, Stands}
@@ -24,6 +24,12 @@ module _ (rule : StringRule) (file : List ℕ) (at : ℕ) (x : Read ℕ) (read :
   pub text_bad : (k : ℕ) → k ≡ x.value → x.value ≤ length file - x.next → false ≡ obeys rule (take k (drop x.next file)) → fault BadString at ≡ text rule file at
   unfolding text
   text_bad k q h a = going _ read (first_way _ (sym (le-leb _ _ h)) (other_way _ (rw q at a) refl))
+
+  -- the text is read
+  pub text_got : (k : ℕ) → k ≡ x.value → x.value ≤ length file - x.next → true ≡ obeys rule (take k (drop x.next file)) → got (take k (drop x.next file)) (x.next + x.value) ≡ text rule file at
+  unfolding text
+  text_got k q h a =
+      going _ read (first_way _ (sym (le-leb _ _ h)) (first_way _ (rw q at a) (ap (λ m. got (take m (drop x.next file)) (x.next + x.value)) q)))
 
 -- a text that was read obeys its rule, and stands before the place after it
 stands : (rule : StringRule) (file : List ℕ) (at size n : ℕ) → at < n → size ≤ largest → size ≤ length file - n → obeys rule (take size (drop n file)) ≡ true → Stands rule file at (take size (drop n file)) (n + size)

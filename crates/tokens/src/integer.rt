@@ -39,16 +39,15 @@ fn read_chain(rest: &[u8], at: usize) -> Result<Read<u64>, TokenFault>
 {
     let mut value: u128 = 0;
     let mut scale: u128 = 1;
-    let bytes = &rest[..rest.len().min(CHAIN_BYTES)];
-    for (k, byte) in bytes.iter().enumerate() {
+    for k in 0..CHAIN_BYTES {
+        let Some(byte) = rest.get(k) else {
+            return refuse(FaultKind::Cut, at);
+        };
         value += u128::from(byte % RADIX) * scale;
         if *byte < RADIX {
             return limited(value, at, k + 1);
         }
         scale *= u128::from(RADIX);
-    }
-    if rest.len() < CHAIN_BYTES {
-        return refuse(FaultKind::Cut, at);
     }
     refuse(FaultKind::Wide, at)
 }
