@@ -1,7 +1,6 @@
 -- Laws of the table's definitions.
-use Rattle.std.proofs.Common.{◌≡◌, ℕ, zero, suc, ◌<◌, ◌≤◌, List, [], ◌∷◌, length, get_or, take, set, replicate, refl, ap, ◌∙◌, subst, arith}
-use Rattle.std.specs.List.{FoldsTo}
-use Rattle.std.proofs.Math.Path.{ap₂}
+use Rattle.std.proofs.Common.{◌≡◌, ℕ, zero, suc, ◌+◌, ◌<◌, ◌≤◌, List, [], ◌∷◌, ◌++◌, length, get_or, take, drop, set, replicate, sym, refl, ap, ◌∙◌, arith}
+use Rattle.std.proofs.lemmas.List.{set-append_right, length-replicate, drop_more, drop_all, append_assoc, append-nil, replicate_more}
 use Rattle.keyed.specs.declared.table.Entry.{Entry}
 use Rattle.keyed.specs.Rows.{updated}
 
@@ -23,12 +22,16 @@ module _ {K V : Type 0} where
   set_updated (r ∷ xs) zero x v = refl
   set_updated (r ∷ xs) (suc i) x v = ap (λ l. r ∷ l) (set_updated xs i x v)
 
--- what is written by calls that give one value each time
-module _ {F X : Type 0} (gives : F → X → F → Type 0) (last : F) (x : X) where
-  written : (f : F) → ((y : X) (g : F) → gives f y g → (g ≡ f) × (y ≡ x)) → (ys : List X) → FoldsTo gives f ys last → ys ≡ replicate (length ys) x
-  written f one [] r = refl
-  written f one (y ∷ ys) r =
-      let e = one y r.0 r.1 in ap₂ (λ z zs. z ∷ zs) e.1 (written f one ys (subst (λ g. FoldsTo gives g ys last) e.0 r.2))
+-- one row more is written, behind the i rows that were
+pub cleared_more : {X : Type 0} (zs xs : List X) (z : X) (i : ℕ) → i < length xs → zs ≡ replicate i z ++ drop i xs → set zs i z ≡ replicate (i + 1) z ++ drop (i + 1) xs
+cleared_more zs xs z i h e =
+    ap (λ l. set l i z) e
+    ∙ set-append_right (replicate i z) (drop i xs) i i z (length-replicate i z) (omega arith)
+    ∙ ap (λ l. replicate i z ++ l) (ap (λ k. set (drop i xs) k z) (omega arith) ∙ ap (λ l. set l 0 z) (drop_more xs i z h))
+    ∙ sym (append_assoc (replicate i z) (z ∷ []) (drop (i + 1) xs))
+    ∙ ap (λ l. l ++ drop (i + 1) xs) (replicate_more i z)
 
-  pub all_written : (f : F) → ((y : X) (g : F) → gives f y g → (g ≡ f) × (y ≡ x)) → (ys : List X) (n : ℕ) → length ys ≡ n → FoldsTo gives f ys last → ys ≡ replicate n x
-  all_written f one ys n e r = written f one ys r ∙ ap (λ k. replicate k x) e
+-- all rows are written
+pub cleared_all : {X : Type 0} (zs xs : List X) (z : X) (i : ℕ) → length xs ≤ i → i ≤ length xs → zs ≡ replicate i z ++ drop i xs → zs ≡ replicate (length xs) z
+cleared_all zs xs z i h k e =
+    e ∙ ap (λ l. replicate i z ++ l) (drop_all i xs h) ∙ append-nil _ ∙ ap (λ n. replicate n z) (omega arith)

@@ -32,12 +32,14 @@ pub struct NoRow;
 pub fn clear_rows<K: Zero, V: Zero>(rows: &mut [Entry<K, V>])
     ensures zeros { rows.new ≡ replicate (length rows.old) (record { key = K.Zero.zero; value = V.Zero.zero }) }
 {
-    // Not `fill`, which asks for a clone that cannot fail, and of a `Copy` type parameter that is not known.
-    let zero = Entry {
+    // A loop, so that each row is written where it stands: the closure of `fill_with` could not tell one from another.
+    let none = Entry {
         key: K::zeroed(),
         value: V::zeroed(),
     };
-    rows.fill_with(move || zero);
+    for row in rows.iter_mut() {
+        *row = none;
+    }
 }
 
 impl<'r, K: Key, V: Copy> Table<'r, K, V> {

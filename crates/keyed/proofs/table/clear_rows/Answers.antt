@@ -1,8 +1,12 @@
-use Rattle.std.proofs.Common.{rules}
-use Rattle.keyed.proofs.Tables.{all_written}
+use Rattle.std.proofs.Common.{set, ◌∙◌}
+use Rattle.std.proofs.Math.Path.{ap₂}
+use Rattle.keyed.proofs.Tables.{cleared_more, cleared_all}
 use Rattle.keyed.proofs.table.clear_rows.Goals as goal
 
--- each call gives the row of zeros, and leaves the closure as it was
+pub loop-row-preserved : goal.loop-row-preserved
+loop-row-preserved g c =
+    ap₂ (λ k v. set c.loop-row.rows c.loop-row.row-index (record { key = k; value = v })) c.zeroed.ensures c.zeroed-2.ensures
+    ∙ cleared_more _ _ _ _ c.loop-row-test.true c.loop-row.invariant
+
 pub returns : goal.returns
-returns g c =
-    record { zeros = all_written _ _ _ _ (λ y f e. (search rules, search rules)) _ _ c.fill_with.ensures.len c.fill_with.ensures.ran.1 }
+returns g c = record { zeros = cleared_all _ _ _ _ c.loop-row-test.false c.loop-row.auto.row-index-end c.loop-row.invariant }
